@@ -1,0 +1,9 @@
+-- The laws of the definitions, and the theorems: one input admits one answer, and the tables hold.
+pub mod Lists
+pub mod Lines
+pub mod Chains
+pub mod Verdicts
+pub mod Reading
+pub mod Widened
+pub mod Shifted
+pub mod Finding

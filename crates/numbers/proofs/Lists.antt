@@ -1,0 +1,42 @@
+-- A list that a loop fills from the front: `front ++ drop n d`, where `front` has n elements and d is the list as it came.
+-- A store at n makes it n + 1, whatever the front is: copies of one value, the values of a function, or a list mapped. Assumes nothing.
+use mathlib.Core.Path.{_≡_, refl, sym, ap, _∙_}
+use mathlib.Core.List.{List, [], _∷_, _++_, map, append-assoc}
+use Prim.Native.Nat.{ℕ, zero, suc, _+_, _≤_, _<_}
+use native.Mathlib.Numerals.{add-one}
+use native.Mathlib.Omega.{arith}
+use lib.ListN.{length, take, drop, getD, set, replicate, length-append, length-drop}
+use lib.Seq.{drop-cons, set-at, take-suc, getD-drop, ext-getD}
+
+module _ {A : Type 0} where
+  -- a store behind the front
+  pub store-next : (front d : List A) (n : ℕ) (v : A) → length front ≡ n → n < length d → set (front ++ drop n d) n v ≡ (front ++ (v ∷ [])) ++ drop (n + 1) d
+  store-next front d n v e h =
+      rw (add-one n, drop-cons d n v h, set-at front (getD d n v) (drop (suc n) d) v n e) (sym (append-assoc front (v ∷ []) (drop (suc n) d)))
+
+  -- filling keeps the length
+  pub front-length : (front d : List A) (n : ℕ) → length front ≡ n → n ≤ length d → length (front ++ drop n d) ≡ length d
+  front-length front d n e h = simp (length-append, length-drop) (omega arith)
+
+  -- ---- one copy more
+  pub replicate-next : (n : ℕ) (v : A) → replicate (n + 1) v ≡ replicate n v ++ (v ∷ [])
+  replicate-next n v = rw (add-one n) (ends n)
+    where
+      ends : (k : ℕ) → replicate (suc k) v ≡ replicate k v ++ (v ∷ [])
+      ends zero = refl
+      ends (suc k) = ap (λ (l : List A). v ∷ l) (ends k)
+
+-- ---- one element more of a list mapped
+module _ {A B : Type 0} (f : A → B) where
+  pub map-append : (a b : List A) → map f (a ++ b) ≡ map f a ++ map f b
+  map-append [] b = refl
+  map-append (x ∷ a) b = ap (λ (l : List B). f x ∷ l) (map-append a b)
+
+  pub map-next : (l : List A) (n : ℕ) (d : A) → n < length l → map f (take (n + 1) l) ≡ map f (take n l) ++ (f (getD l n d) ∷ [])
+  map-next l n d h = rw (add-one n, take-suc l n d h) (map-append (take n l) (getD l n d ∷ []))
+
+-- two lists of one length that agree from n on have the same rest
+pub same-rest : {A : Type 0} (z : A) (n : ℕ) (a b : List A) → length a ≡ length b → ((k : ℕ) → n ≤ k → getD a k z ≡ getD b k z) → drop n a ≡ drop n b
+same-rest z n a b e h =
+    ext-getD z (drop n a) (drop n b) (simp length-drop (omega arith))
+    (λ i l. getD-drop n a i z ∙ h (n + i) (omega arith) ∙ sym (getD-drop n b i z))
