@@ -3,7 +3,10 @@ pub mod Lists
 pub mod Lines
 pub mod Chains
 pub mod Verdicts
+pub mod Answers
+pub mod Caps
 pub mod Reading
 pub mod Widened
 pub mod Shifted
 pub mod Finding
+pub mod Tables

@@ -2,7 +2,7 @@
 use mathlib.Core.Path.{_≡_, refl, ap, sym, _∙_}
 use mathlib.Core.Bool.{Bool, true, false, cond}
 use mathlib.Core.List.{List, [], _∷_, _++_}
-use mathlib.Core.Option.{Option, none, some}
+use mathlib.Core.Option.{Option, some}
 use Rattle.numbers.proofs.First.{or-next}
 use Rattle.model.specs.Types.{WallError, Outcome, Accepted, Refused}
 use Rattle.model.specs.Refusal.{Refusal, Line, first, given}

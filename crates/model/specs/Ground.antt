@@ -1,11 +1,5 @@
 -- The ground: cells, obstacles, and the centers that are free of them (document 01, "Boxes and centers", "Bytes and words"). Assumes nothing.
-use mathlib.Core.Bool.{Bool, not, _&&_}
-use mathlib.Core.List.{List, [], _∷_, _++_, map}
-use Prim.Native.Nat.{ℕ, _/_, _%_}
-use lib.Dec.{eqb}
-use lib.ListN.{take}
-use lib.IntN.{ℤ, pos}
-use Rattle.model.specs.Types.{PixelRect, CollisionBounds, WallBuilding, Plan}
+use Rattle.model.specs.Types.{Bool, not, _&&_, List, [], _∷_, _++_, map, ℕ, _/_, _%_, eqb, take, ℤ, pos, PixelRect, CollisionBounds, WallBuilding, Plan}
 use Rattle.model.specs.Lists.{any, places}
 use Rattle.model.specs.Boxes.{holds, meets, around, inMap, cellBox, collisionBox}
 
@@ -16,7 +10,7 @@ pub record Ground : Type 0 where
   pub cells : List ℕ
   pub words : List ℤ
 
--- Cell, in a byte below 32, most significant first: walkable, buildable, elevation (2 bits), ramp.
+-- Cell, in a byte below 32, most significant first: walkable, buildable, elevation (2 bits), ramp, which nothing here reads.
 abbrev pub walkable : ℕ → Bool
 walkable c = eqb (c / 16 % 2) 1
 
@@ -25,9 +19,6 @@ buildable c = eqb (c / 8 % 2) 1
 
 abbrev pub elevation : ℕ → ℕ
 elevation c = c / 2 % 4
-
-abbrev pub ramp : ℕ → Bool
-ramp c = eqb (c % 2) 1
 
 -- Obstacles are first taken as a list of signed words, four each: left, top, right, bottom.
 unfoldable pub rects : List ℤ → List PixelRect

@@ -10,3 +10,6 @@ pub mod Refusal
 pub mod Areas
 pub mod Check
 pub mod RouteTest
+pub mod Packed
+pub mod Report
+pub mod Cases

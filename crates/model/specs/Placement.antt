@@ -1,60 +1,36 @@
 -- Placement issues (document 01, "Placement issues" and "Bytes and words"). Assumes nothing.
-use mathlib.Core.Bool.{Bool, true, false, not, _&&_}
-use mathlib.Core.List.{List, [], _∷_, _++_, map}
-use Prim.Native.Nat.{ℕ, suc, _+_, _*_, _^_}
-use lib.Dec.{eqb}
-use lib.ListN.{length}
-use Rattle.model.specs.Types.{PixelRect, WallBuilding, WallPlacement}
+use Rattle.model.specs.Types.{cond, ltb, not, _&&_, List, [], _∷_, _++_, map, ℕ, suc, _+_, _*_, _^_, eqb, length, PixelRect, WallBuilding, WallPlacement}
 use Rattle.model.specs.Lists.{places}
 use Rattle.model.specs.Boxes.{meets, inMap, cellBox, footprintBox, collisionBox}
 use Rattle.model.specs.Ground.{Ground, walkable, buildable, obstacles}
 
 -- The four kinds, in this order.
 pub data Issue : Type 0 where
-  OutOfMap : Issue
-  UnbuildableTerrain : Issue
-  OverlapsObstacle : ℕ → Issue
-  OverlapsBuilding : ℕ → Issue
-
--- kind (2 bits; 0 to 3 as listed)
-abbrev pub kind : Issue → ℕ
-kind OutOfMap = 0
-kind UnbuildableTerrain = 1
-kind (OverlapsObstacle i) = 2
-kind (OverlapsBuilding i) = 3
-
--- index (0 where the kind has none)
-abbrev pub index : Issue → ℕ
-index OutOfMap = 0
-index UnbuildableTerrain = 0
-index (OverlapsObstacle i) = i
-index (OverlapsBuilding i) = i
+  OutOfMap UnbuildableTerrain : Issue
+  OverlapsObstacle OverlapsBuilding : ℕ → Issue
 
 -- Issue, 32 bits: building (5), kind (2), zero (12), index (13).
+abbrev pub wordOf : ℕ → ℕ → ℕ → ℕ
+wordOf building kind index = building * 2 ^ 27 + kind * 2 ^ 25 + index
+
+-- kind 0 to 3 as listed; index 0 where the kind has none
 abbrev pub issueWord : ℕ → Issue → ℕ
-issueWord building i = building * 2 ^ 27 + kind i * 2 ^ 25 + index i
+issueWord building OutOfMap = wordOf building 0 0
+issueWord building UnbuildableTerrain = wordOf building 1 0
+issueWord building (OverlapsObstacle i) = wordOf building 2 i
+issueWord building (OverlapsBuilding i) = wordOf building 3 i
 
 -- The numbers of the footprint's cells that are unwalkable or unbuildable, by rows and then from the left.
 unfoldable pub badCells : Ground → PixelRect → List ℕ
 badCells g footprint = places (λ i c. meets footprint (cellBox (g .width) i) && not (walkable c && buildable c)) (g .cells)
-
--- some number is listed
-abbrev pub nonEmpty : List ℕ → Bool
-nonEmpty [] = false
-nonEmpty (n ∷ ns) = true
-
--- an issue given once, if the test holds
-abbrev pub noted : Bool → Issue → List Issue
-noted true i = i ∷ []
-noted false i = []
 
 -- OutOfMap once, if footprint or collision box leaves the map; UnbuildableTerrain once, if the footprint is in the map and some cell of it is unwalkable or
 -- unbuildable; OverlapsObstacle for each obstacle that meets the footprint, index rising; OverlapsBuilding for each other building whose footprint meets it, index rising.
 unfoldable pub issuesOf : Ground → List WallBuilding → ℕ → WallBuilding → List Issue
 issuesOf g bs k b =
     let inside = inMap (g .width) (g .height) (footprintBox b) in
-    noted (not (inside && inMap (g .width) (g .height) (collisionBox b))) OutOfMap
-    ++ (noted (inside && nonEmpty (badCells g (footprintBox b))) UnbuildableTerrain
+    cond (inside && inMap (g .width) (g .height) (collisionBox b)) [] (OutOfMap ∷ [])
+    ++ (cond (inside && ltb 0 (length (badCells g (footprintBox b)))) (UnbuildableTerrain ∷ []) []
     ++ (map OverlapsObstacle (places (λ i o. meets (footprintBox b) o) (obstacles g))
     ++ map OverlapsBuilding (places (λ i c. not (eqb i k) && meets (footprintBox b) (footprintBox c)) bs)))
 

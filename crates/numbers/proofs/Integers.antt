@@ -3,11 +3,11 @@
 -- rules of `omega` (`omega ints`). The laws on sums and differences hold at every z and are listed with their arguments.
 -- Assumes nothing.
 use mathlib.Core.Path.{_≡_, refl, sym, ap, _∙_, subst}
-use mathlib.Core.Bool.{Bool, true, false, not, cond, _&&_}
-use Prim.Native.Nat.{ℕ, zero, suc, _+_, _-_, _*_, _^_, _≤_, _<_, min, max}
+use mathlib.Core.Bool.{Bool, true, false, not, cond}
+use Prim.Native.Nat.{ℕ, zero, suc, _+_, _-_, _^_, _≤_, _<_, min, max}
 use native.Mathlib.Omega.{arith}
-use lib.Dec.{T, ltb, leb, ltb→lt, nltb→le, leb→le, lt→ltb, le→leb}
-use lib.IntN.{ℤ, pos, negsuc, negℤ, natAbs, subℕ, _+ℤ_, _-ℤ_, _*ℤ_}
+use lib.Dec.{T, ltb, ltb→lt, nltb→le, leb→le, lt→ltb, le→leb}
+use lib.IntN.{ℤ, pos, negsuc, negℤ, natAbs, subℕ, _+ℤ_, _-ℤ_}
 use lib.Signed.{ltZ, leZ, mag, nonNeg, _≤ℤ_, _<ℤ_, ltZ-no}
 use mir.Syntax.{Width, w32, w64}
 use mir.Val.{Fits, SFits, hbits, toZ, ofZ}
@@ -15,7 +15,7 @@ use mir.Facts.{sfits-widen, toZ-ofZ, toZ-pos}
 use borrow.Author.Needs.{needs}
 use Rattle.numbers.specs.Integers.{up, dn}
 use Rattle.numbers.proofs.Tests.{is-true, is-false}
-use borrow.Author.Tests.{lt-ltb, le-ltb, le-leb, lt-leb, ltb-true, ltb-false, leb-true, leb-false}
+use borrow.Author.Tests.{leb-false}
 
 -- ---- orders
 ≤-nat′ : (a b : ℤ) → T (leZ a b) → up a + dn b ≤ up b + dn a
