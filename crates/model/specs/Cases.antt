@@ -142,17 +142,17 @@ further =
     ∷ passes (plain []) (query (rect 0 0 64 64) (at 33 33) (at 31 31) noExtents (B ∷ [])) EndBlocked true []
     ∷ passes (plain []) (query (rect 44 0 52 32) (at 46 5) (at 50 5) noExtents (building 1 0 (extents 0 16 0 15) ∷ [])) BlockedWithinWindow true []
     ∷ passes (plain fence) (query (rect 25 0 40 20) (at 25 10) (at 30 10) (extents 2 0 1 0) []) StartBlocked false []
-    ∷ placed (plain (pos 0 ∷ pos 0 ∷ pos 64 ∷ pos 32 ∷ [])) (k2 (building 0 0 (extents 16 16 47 15) ∷ building 1 0 noExtents ∷ building 1 0 (extents 99 0 0 0) ∷ []))
+    ∷ placed (plain (pos 0 ∷ pos 0 ∷ pos 64 ∷ pos 32 ∷ negsuc 9 ∷ pos 16 ∷ negsuc 4 ∷ pos 17 ∷ [])) (k2 (building 0 0 (extents 16 16 47 15) ∷ building 1 0 noExtents ∷ building 1 0 (extents 99 0 0 0) ∷ []))
     (boxed (rect 0 0 32 32) (rect 0 0 64 32) 1 ∷ boxed (rect 32 0 64 32) (rect 48 16 49 17) 2 ∷ boxed (rect 32 0 64 32) (record { left = negsuc 50; top = pos 16; right = pos 49; bottom = pos 17 }) 3 ∷ [])
     (67108864 ∷ 201326592 ∷ 234881026 ∷ 268435456 ∷ 335544320 ∷ 369098753 ∷ [])
     ∷ leaves (rect 0 0 1 1) (7 ∷ []) (at 1 2 ∷ []) (lent 9 5 5 5 5 5 5 5)
     (let one : List ℕ = 0 ∷ replicate 4 9 in record { issues = 7 ∷ replicate 4 9; base = replicate 4 0 ++ (9 ∷ []); plan = replicate 4 0 ++ (9 ∷ []); marks = replicate 2 0 ++ replicate 3 9; parents = one; queue = one; route = 65538 ∷ replicate 4 9 })
     ∷ tests (plain []) k1
-    ((2031648 ∷ 2097184 ∷ 2097183 ∷ []) ∷ (2031648 ∷ 2097184 ∷ 2097184 ∷ 2097183 ∷ []) ∷ (2031648 ∷ 2097183 ∷ []) ∷ (2031648 ∷ 2031647 ∷ 2097183 ∷ []) ∷ (2097184 ∷ 2097183 ∷ []) ∷ (2031648 ∷ 2097184 ∷ []) ∷ [] ∷ [])
-    (true ∷ true ∷ false ∷ false ∷ false ∷ false ∷ false ∷ [])
+    ((2031648 ∷ 2097184 ∷ 2097183 ∷ []) ∷ (2031648 ∷ 2097184 ∷ 2097184 ∷ 2097183 ∷ []) ∷ (2031648 ∷ 2097183 ∷ []) ∷ (2031648 ∷ 2162720 ∷ 2097183 ∷ []) ∷ (2031648 ∷ 2031647 ∷ 2097183 ∷ []) ∷ (2097184 ∷ 2097183 ∷ []) ∷ (2031648 ∷ 2097184 ∷ []) ∷ [] ∷ [])
+    (true ∷ true ∷ false ∷ false ∷ false ∷ false ∷ false ∷ false ∷ [])
     ∷ packed ([] ∷ one 0 ∷ one 33 ∷ take 53 (one 0) ∷ (one 0 ++ (0 ∷ [])) ∷ (take 53 (one 0) ++ (1 ∷ [])) ∷ []) (some (refuse 18 []) ∷ none ∷ none ∷ some (refuse 18 []) ∷ some (refuse 19 []) ∷ some (refuse 19 []) ∷ [])
     ∷ says k1Bytes (plain []) k1
-    ∷ runs ((0 ∷ 0 ∷ 0 ∷ 0 ∷ []) ∷ (16 ∷ 0 ∷ 0 ∷ 0 ∷ 0 ∷ []) ∷ (0 ∷ 0 ∷ 8 ∷ 64 ∷ 0 ∷ []) ∷ one 0 ∷ one 33 ∷ minus ∷ k1Bytes ∷ []) (some (refuse 18 []) ∷ some (refuse 20 []) ∷ some (refuse 20 []) ∷ some (refuse 10 []) ∷ some (refuse 9 (33 ∷ [])) ∷ some (refuse 10 []) ∷ none ∷ [])
+    ∷ runs ((0 ∷ 0 ∷ 0 ∷ 0 ∷ []) ∷ (16 ∷ 0 ∷ 0 ∷ 0 ∷ 0 ∷ []) ∷ (0 ∷ 0 ∷ 0 ∷ 8 ∷ 64 ∷ []) ∷ one 0 ∷ one 33 ∷ minus ∷ k1Bytes ∷ []) (some (refuse 18 []) ∷ some (refuse 20 []) ∷ some (refuse 20 []) ∷ some (refuse 10 []) ∷ some (refuse 9 (33 ∷ [])) ∷ some (refuse 10 []) ∷ none ∷ [])
     ∷ prints (boxed (rect 0 0 32 32) (rect 0 0 32 32) 0 ∷ []) [] (record { passage = Open; «baseline_passable» = true; points = 3 }) (2031648 ∷ 2097184 ∷ 2097183 ∷ [])
     "check ok\nplacement 0 footprint 0 0 32 32 collision 0 0 32 32 issues 0\npassage Open\nbaseline 1\nroute 3\n31 32\n32 32\n32 31\n"
     ∷ []
