@@ -2,12 +2,14 @@
 use mathlib.Core.Path.{_≡_, refl, ap, _∙_}
 use mathlib.Core.Bool.{Bool, true, false}
 use mathlib.Core.List.{List, [], _∷_, _++_}
-use Prim.Native.Nat.{ℕ, suc, _+_, _/_}
+use Prim.Native.Nat.{ℕ, zero, suc, _+_, _/_, _≤_, _<_}
 use native.Mathlib.Omega.{arith}
 use lib.IntN.{ℤ, pos}
-use lib.ListN.{length, getD}
+use native.Mathlib.Numerals.{add-one}
+use lib.ListN.{length, getD, set, drop, length-append}
+use Rattle.numbers.proofs.Lists.{store-next, front-length}
 use Rattle.model.specs.Types.{PixelRect}
-use Rattle.model.specs.Lists.{keepIf, placesFrom}
+use Rattle.model.specs.Lists.{keepIf, placesFrom, table}
 use Rattle.model.specs.Ground.{rects}
 
 keep-append : (t : Bool) (n : ℕ) (a b : List ℕ) → keepIf t n (a ++ b) ≡ keepIf t n a ++ b
@@ -21,6 +23,24 @@ places-append n test [] b = ap (λ (k : ℕ). placesFrom k test b) (omega arith)
 places-append n test (x ∷ a) b =
     ap (keepIf (test n x) n) (places-append (suc n) test a b ∙ ap (λ (k : ℕ). placesFrom (suc n) test a ++ placesFrom k test b) (omega arith))
     ∙ keep-append (test n x) n (placesFrom (suc n) test a) (placesFrom (n + suc (length a)) test b)
+
+-- ---- f 0, f 1, .., f (n - 1)
+module _ {A : Type 0} (f : ℕ → A) where
+  pub table-next : (n : ℕ) → table f (n + 1) ≡ table f n ++ (f n ∷ [])
+  unfolding table
+  table-next n = rw (add-one n)
+
+  pub table-length : (n : ℕ) → length (table f n) ≡ n
+  unfolding table
+  table-length zero = refl
+  table-length (suc n) = length-append (table f n) (f n ∷ []) ∙ rw (table-length n) (omega arith)
+
+  -- a loop that fills a list with f from the front: the store at n makes it the same at n + 1
+  pub table-store : (n : ℕ) (d : List A) → n < length d → set (table f n ++ drop n d) n (f n) ≡ table f (n + 1) ++ drop (n + 1) d
+  table-store n d h = store-next (table f n) d n (f n) (table-length n) h ∙ rw (← (table-next n))
+
+  pub table-front : (n : ℕ) (d : List A) → n ≤ length d → length (table f n ++ drop n d) ≡ length d
+  table-front n d h = front-length (table f n) d n (table-length n) h
 
 -- four words make a rectangle
 pub rects-length : (ws : List ℤ) → length (rects ws) ≡ length ws / 4

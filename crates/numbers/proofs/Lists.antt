@@ -2,7 +2,7 @@
 -- A store at n makes it n + 1, whatever the front is: copies of one value, the values of a function, or a list mapped. Assumes nothing.
 use mathlib.Core.Path.{_≡_, refl, sym, ap, _∙_}
 use mathlib.Core.List.{List, [], _∷_, _++_, map, append-assoc}
-use Prim.Native.Nat.{ℕ, zero, suc, _+_, _≤_, _<_}
+use Prim.Native.Nat.{ℕ, zero, suc, _+_, _-_, _≤_, _<_}
 use native.Mathlib.Numerals.{add-one}
 use native.Mathlib.Omega.{arith}
 use lib.ListN.{length, take, drop, getD, set, replicate, length-append, length-drop}
@@ -25,6 +25,12 @@ module _ {A : Type 0} where
       ends : (k : ℕ) → replicate (suc k) v ≡ replicate k v ++ (v ∷ [])
       ends zero = refl
       ends (suc k) = ap (λ (l : List A). v ∷ l) (ends k)
+
+  -- what is left of n copies
+  pub drop-replicate : (i n : ℕ) (v : A) → drop i (replicate n v) ≡ replicate (n - i) v
+  drop-replicate zero n v = let e : n ≡ n - 0 = omega arith in ap (λ (m : ℕ). replicate m v) e
+  drop-replicate (suc i) zero v = let e : 0 ≡ 0 - suc i = omega arith in ap (λ (m : ℕ). replicate m v) e
+  drop-replicate (suc i) (suc n) v = let e : n - i ≡ suc n - suc i = omega arith in drop-replicate i n v ∙ ap (λ (m : ℕ). replicate m v) e
 
 -- ---- one element more of a list mapped
 module _ {A B : Type 0} (f : A → B) where
