@@ -100,7 +100,7 @@ none-both a b e = by (first a) (sym (first-append a b) ∙ e)
     by none h = (refl, h)
     by (some x) h = (cc, cc)
 
-neither : (a b : Bool) → a || b ≡ false → (a ≡ false) × (b ≡ false)
+pub neither : (a b : Bool) → a || b ≡ false → (a ≡ false) × (b ≡ false)
 neither true b e = (e, cc)
 neither false b e = (refl, e)
 
@@ -108,7 +108,7 @@ each : (a b : Bool) → a && b ≡ true → (a ≡ true) × (b ≡ true)
 each true b e = (refl, e)
 each false b e = (e, cc)
 
-in-cap : (cap n : ℕ) → off cap n ≡ false → (1 ≤ n) × (n ≤ cap)
+pub in-cap : (cap n : ℕ) → off cap n ≡ false → (1 ≤ n) × (n ≤ cap)
 in-cap cap n e = let h = neither (eqb n 0) (ltb cap n) e in (omega (arith, eqb-false n 0 (h .0)), ltb-false cap n (h .1))
 
 narrow : (e : CollisionBounds) → wide e ≡ false → Narrow e
