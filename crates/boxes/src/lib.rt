@@ -3,7 +3,7 @@ ghost use mathlib.Core.Path.{_≡_};
 ghost use Prim.Native.Nat.{_+_, _*_, _≤_, _<_};
 ghost use lib.IntN.{pos, natAbs, _-ℤ_};
 ghost use lib.ListN.{length, getD};
-ghost use Rattle.model.specs.Boxes.{meets, inMap};
+ghost use Rattle.model.specs.Boxes.{meets, inMap, widthOf, heightOf};
 ghost use Rattle.model.specs.Check.{noRect};
 ghost use Rattle.model.specs.Ground.{rects};
 ghost use Rattle.model.specs.Refusal.{geometryOf};
@@ -42,7 +42,7 @@ pub fn rect_in_map(rect: PixelRect, width: u32, height: u32) -> bool
 }
 
 // How far apart the two sides are.
-pub fn extent(low: i32, high: i32) -> usize
+fn extent(low: i32, high: i32) -> usize
     ensures { λ r. ⌜ r ≡ natAbs (high -ℤ low) ⌝ }
 {
     let from = numbers::biased(low);
@@ -51,6 +51,20 @@ pub fn extent(low: i32, high: i32) -> usize
         return (from - to) as usize;
     }
     (to - from) as usize
+}
+
+// How wide a rectangle is that is not inverted.
+pub fn width(rect: PixelRect) -> usize
+    ensures { λ r. ⌜ r ≡ widthOf rect ⌝ }
+{
+    extent(rect.left, rect.right)
+}
+
+// How high it is.
+pub fn height(rect: PixelRect) -> usize
+    ensures { λ r. ⌜ r ≡ heightOf rect ⌝ }
+{
+    extent(rect.top, rect.bottom)
 }
 
 // Obstacle i, from its four words.

@@ -4,6 +4,7 @@ pub mod Lines
 pub mod Places
 pub mod Words
 pub mod Valid
+pub mod Enough
 pub mod Chains
 pub mod Verdicts
 pub mod Reading

@@ -85,7 +85,7 @@ pub record Valid (g : Ground) (q : WallQuery) : Type 0 where
   pub each-building : (i : ℕ) (d : WallBuilding) → i < length (built (q .plan)) → Sound (getD (built (q .plan)) i d)
 
 -- ---- lines and tests that do not apply
-none-line : (l : Line) (ls : List Line) → first (l ∷ ls) ≡ none → (l .applies ≡ false) × (first ls ≡ none)
+pub none-line : (l : Line) (ls : List Line) → first (l ∷ ls) ≡ none → (l .applies ≡ false) × (first ls ≡ none)
 unfolding first
 none-line l ls e = by (l .applies) e
   where

@@ -7,9 +7,9 @@ use Prim.Native.Nat.{ℕ, _+_, _<_, _≤_}
 use native.Mathlib.Numerals.{add-one}
 use native.Mathlib.Omega.{arith}
 use lib.IntN.{ℤ}
-use lib.ListN.{length, getD, take, drop, length-take, drop-of-length-le}
-use lib.Seq.{drop-cons, getD-take}
+use lib.ListN.{length, getD, take, drop}
 use borrow.Author.Tests.{le-leb, lt-leb, lt-ltb}
+use Rattle.numbers.proofs.Front.{front-next, front-done}
 use Rattle.model.specs.declared.WallBuilding.{WallBuilding}
 use Rattle.model.specs.declared.BuildingGeometry.{BuildingGeometry}
 use Rattle.model.specs.declared.Geometry.{Geometry}
@@ -59,15 +59,10 @@ module _ (ws : List ℤ) where
       rw (k .1) (ap (λ (j : ℕ). some (refuse 7 (j ∷ []))) (omega arith))
 
 -- ---- buildings: the lines from i on are those of building i, and then those from i + 1 on
-next-building : (bs : List WallBuilding) (i : ℕ) (d : WallBuilding) → i < length bs
-    → first (buildingLines i (drop i bs)) ≡ first (buildingLines i (getD bs i d ∷ []) ++ buildingLines (i + 1) (drop (i + 1) bs))
-unfolding buildingLines
-next-building bs i d m = rw (add-one i, drop-cons bs i d m)
-
--- among the first n places of a plan, which has as many
 module _ (bs : List WallBuilding) (n i : ℕ) (d : WallBuilding) (m : i < n) (has : n ≤ length bs) where
   opened : first (buildingLines i (drop i (take n bs))) ≡ first (buildingLines i (getD bs i d ∷ []) ++ buildingLines (i + 1) (drop (i + 1) (take n bs)))
-  opened = next-building (take n bs) i d (simp length-take (omega arith)) ∙ rw (getD-take n bs i d m)
+  unfolding buildingLines
+  opened = rw (front-next bs n i d m has, ← add-one i)
 
   pub building-passed : {o : Outcome} → o ≡ Accepted → given o ≡ first (buildingLines i (getD bs i d ∷ []))
       → first (buildingLines i (drop i (take n bs))) ≡ first (buildingLines (i + 1) (drop (i + 1) (take n bs)))
@@ -79,7 +74,7 @@ module _ (bs : List WallBuilding) (n i : ℕ) (d : WallBuilding) (m : i < n) (ha
 
 pub buildings-done : (bs : List WallBuilding) (n i : ℕ) → n ≤ i → first (buildingLines i (drop i (take n bs))) ≡ none
 unfolding first buildingLines
-buildings-done bs n i h = rw (drop-of-length-le (take n bs) {i = i} (simp length-take (omega arith)))
+buildings-done bs n i h = rw (front-done bs n i h)
 
 -- ---- what a building's geometry shows of line 16
 module _ (b : WallBuilding) {r : Geometry} (e : r ≡ geometryOf b) where

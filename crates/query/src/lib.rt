@@ -146,8 +146,8 @@ fn validate_window(map_width: u32, map_height: u32, window: PixelRect) -> Outcom
     if hollow | !inside {
         return Outcome::Refused(WallError::InvalidWindow);
     }
-    let width = boxes::extent(window.left, window.right);
-    let height = boxes::extent(window.top, window.bottom);
+    let width = boxes::width(window);
+    let height = boxes::height(window);
     if (width > 1024) | (height > 1024) {
         return Outcome::Refused(WallError::WindowTooLarge { width, height });
     }
