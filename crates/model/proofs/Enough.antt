@@ -2,7 +2,7 @@
 use mathlib.Core.Path.{_≡_}
 use mathlib.Core.List.{List, _∷_}
 use mathlib.Core.Option.{none}
-use Prim.Native.Nat.{_≤_}
+use Prim.Native.Nat.{ℕ, _*_, _≤_}
 use lib.ListN.{length}
 use borrow.Author.Tests.{ltb-false}
 use Rattle.model.specs.Types.{WallQuery, Room}
@@ -11,6 +11,7 @@ use Rattle.model.specs.Refusal.{first}
 use Rattle.model.specs.Areas.{roomLines, issueRoom, differenceRoom, markRoom, centerRoom}
 use Rattle.model.specs.Check.{CheckAreas, checkRooms}
 use Rattle.model.specs.RouteTest.{TestAreas, testRooms}
+use Rattle.model.specs.Packed.{ReadAreas, readRooms, areaIn, headerIn}
 use Rattle.model.proofs.Valid.{none-line}
 
 pub record CheckEnough (g : Ground) (q : WallQuery) (a : CheckAreas) : Type 0 where
@@ -49,3 +50,7 @@ test-enough q a e =
     let base = one-enough _ _ e in
     let plan = one-enough _ _ (base .1) in
     record { base = base .0; plan = plan .0; marks = one-enough _ _ (plan .1) .0 }
+
+pub read-enough : (s : List ℕ) (a : ReadAreas) → first (roomLines (readRooms s a)) ≡ none → (areaIn s ≤ length (a .cells)) × (4 * headerIn s .obstacles ≤ length (a .words))
+unfolding readRooms
+read-enough s a e = let cells = one-enough _ _ e in (cells .0, one-enough _ _ (cells .1) .0)

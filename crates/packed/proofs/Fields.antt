@@ -3,17 +3,14 @@
 --     field-lt       a field of n bits is below 2 ^ n
 --     field-byte     the eight bits of a byte are the byte
 --     field-window   a field within the 40 bits from a byte on, as a quotient and a remainder of them
-use mathlib.Core.Path.{_≡_, refl, sym, ap, _∙_}
-use mathlib.Core.List.{List, [], _∷_, _++_, append-assoc}
+use mathlib.Core.Path.{_≡_, refl, ap, _∙_}
+use mathlib.Core.List.{List, _++_}
 use Prim.Native.Nat.{ℕ, zero, suc, _+_, _-_, _*_, _/_, _%_, _^_, _≤_, _<_, min}
-use native.Mathlib.Nat.{add-zero, add-suc, pow-zero, pow-suc, mul-one, add-assoc, mod-lt}
+use native.Mathlib.Nat.{add-zero, add-suc, pow-zero, pow-suc, add-assoc, mod-lt}
 use native.Mathlib.Omega.{arith}
-use lib.ListN.{length, getD, drop, replicate}
-use lib.Seq.{drop-cons, set-at}
-use native.Mathlib.Numerals.{add-one}
+use lib.ListN.{getD, drop, replicate}
 use lib.Dec.{lit<, ltb}
 use mathlib.Core.Bool.{cond}
-use borrow.Author.Tests.{leb-true, leb-false}
 use lib.Pow.{high, low, shl-exact}
 use lib.IntN.{ℤ, pos, negsuc, _-ℤ_}
 use mir.Syntax.{w32}
@@ -21,6 +18,8 @@ use mir.Val.{toZ}
 use Rattle.numbers.proofs.Lists.{drop-replicate}
 use Rattle.numbers.proofs.Integers.{nat-≡, sub-nat, apart}
 use Rattle.model.specs.Packed.{bitAt, fieldAt, signed, wordIn, pointIn, noBuilding}
+use Rattle.model.specs.Areas.{begun}
+use Rattle.model.proofs.Lists.{table-length}
 use Rattle.model.specs.Lists.{table}
 use Rattle.model.specs.declared.PixelPosition.{PixelPosition}
 use Rattle.model.specs.declared.WallBuilding.{WallBuilding}
@@ -124,3 +123,7 @@ pub plan-read : (f : ℕ → WallBuilding) (i n : ℕ) (bs d : List WallBuilding
 plan-read f i n bs d e h k =
     k ∙ (ap (λ (l : List WallBuilding). table f i ++ drop i l) h ∙ (ap (λ (l : List WallBuilding). table f i ++ l) (drop-replicate i 32 noBuilding)
     ∙ (let m : 32 - i ≡ 32 - n = omega arith in rw (m, e) refl)))
+
+-- a list filled with n values begins with them
+pub begun-table : {A : Type 0} (f : ℕ → A) (n : ℕ) (d : List A) → table f n ++ drop n d ≡ begun (table f n) d
+begun-table f n d = rw (table-length f n)

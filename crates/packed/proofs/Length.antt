@@ -1,20 +1,21 @@
 -- Which of 18 and 19 a packed query is refused with, by its length and its filling bits. Assumes nothing.
-use mathlib.Core.Path.{_≡_, refl, ap}
-use mathlib.Core.Bool.{Bool, true, false, not, _||_}
+use mathlib.Core.Path.{_≡_}
 use mathlib.Core.List.{List, []}
 use mathlib.Core.Option.{none, some}
-use Prim.Native.Nat.{ℕ, _+_, _-_, _*_, _≤_, _<_}
+use Prim.Native.Nat.{ℕ, _-_, _*_, _≤_, _<_}
 use native.Mathlib.Omega.{arith}
-use lib.Dec.{eqb}
 use lib.ListN.{length}
 use borrow.Author.Tests.{lt-ltb, le-ltb, eq-eqb, ne-eqb}
 use Rattle.model.specs.Refusal.{refuse, first}
-use Rattle.model.specs.Packed.{fieldAt, headerIn, areaIn, bitsIn, bytesIn, packedLines}
+use Rattle.model.specs.Packed.{fieldAt, areaIn, bitsIn, bytesIn, packedLines}
 use Rattle.packed.specs.declared.Header.{Header}
 use Rattle.packed.specs.Reading.{HeaderIs, bitsOf}
 
 pub bits-in : {s : List ℕ} {h : Header} → HeaderIs s h → bitsOf h ≡ bitsIn s
 bits-in e = rw (e .width, e .height, e .obstacles, e .buildings)
+
+pub area-in : {s : List ℕ} {h : Header} → HeaderIs s h → h .width * h .height ≡ areaIn s
+area-in e = rw (e .width, e .height)
 
 module _ (s : List ℕ) where
   -- the header alone is five bytes

@@ -1,3 +1,4 @@
 -- The laws that the proofs of this crate share.
 pub mod Fields
 pub mod Length
+pub mod Whole

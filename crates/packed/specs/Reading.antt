@@ -2,7 +2,7 @@
 use mathlib.Core.Path.{_≡_}
 use mathlib.Core.List.{List, _++_}
 use Prim.Native.Nat.{ℕ, _+_, _-_, _*_, _≤_, _<_, min}
-use lib.ListN.{length, drop, replicate}
+use lib.ListN.{replicate}
 use Rattle.model.specs.declared.Plan.{Plan}
 use Rattle.model.specs.declared.WallQuery.{WallQuery}
 use Rattle.model.specs.Lists.{table}

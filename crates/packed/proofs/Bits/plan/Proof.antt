@@ -1,14 +1,14 @@
 -- `packed::Bits::plan` meets its contract. After i turns the first i places hold the first i buildings, and the rest is zero. Assumes nothing.
 use borrow.Author.Needs.{needs}
 use denote.Ref.{now}
-use mathlib.Core.Path.{_≡_, refl, ap, _∙_}
+use mathlib.Core.Path.{_≡_, refl, ap}
 use mathlib.Core.List.{List, _++_}
 use Prim.Native.Nat.{ℕ, _+_, _*_, _-_, _≤_}
 use native.Mathlib.Omega.{arith}
 use lib.ListN.{drop, replicate}
 use Rattle.model.specs.Lists.{table}
 use Rattle.model.specs.declared.WallBuilding.{WallBuilding}
-use Rattle.model.specs.Packed.{buildingIn, noBuilding}
+use Rattle.model.specs.Packed.{buildingIn}
 use Rattle.model.proofs.Lists.{table-store}
 use Rattle.packed.specs.Reading.{AtWord}
 use Rattle.packed.proofs.Fields.{plan-read}

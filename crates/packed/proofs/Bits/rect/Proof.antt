@@ -1,12 +1,9 @@
 -- `packed::Bits::rect` meets its contract. Assumes nothing.
 use borrow.Author.Needs.{needs}
-use denote.Ref.{now}
-use mathlib.Core.Path.{_≡_, ap, _∙_}
-use native.Mathlib.Omega.{arith}
-use lib.IntN.{ℤ}
+use mathlib.Core.Path.{ap, _∙_}
 use mir.Facts.{toZ-ofZ}
 use mir.Syntax.{w32}
-use mir.Val.{SFits, toZ, ofZ}
+use mir.Val.{SFits}
 use Rattle.model.specs.declared.CollisionBounds.{CollisionBounds}
 use Rattle.model.specs.Packed.{signed}
 use Rattle.packed.proofs.Bits.rect.Statement.{statement}
