@@ -1,0 +1,3 @@
+-- The laws that the proofs of several functions cite.
+pub mod Puts
+pub mod Cells

@@ -1,0 +1,59 @@
+-- Words put into an area, one part behind the other. Assumes nothing.
+use mathlib.Core.Path.{_≡_, refl, sym, ap, subst, _∙_}
+use mathlib.Core.List.{List, [], _∷_, _++_, append-assoc}
+use Prim.Native.Nat.{ℕ, suc, _+_, _-_, _≤_, _<_}
+use native.Mathlib.Numerals.{add-one}
+use native.Mathlib.Omega.{arith}
+use lib.ListN.{length, take, drop, set, length-append, length-drop, take-append-drop}
+use lib.Seq.{length-take-le, set-split, take-at, drop-append-add, drop-drop}
+use Rattle.model.specs.Placement.{Issue, OutOfMap, UnbuildableTerrain, OverlapsObstacle, OverlapsBuilding, kind}
+use Rattle.placement.specs.Issues.{Put}
+
+-- two bits hold a kind
+pub kind-small : (i : Issue) → kind i < 4
+kind-small OutOfMap = omega arith
+kind-small UnbuildableTerrain = omega arith
+kind-small (OverlapsObstacle i) = omega arith
+kind-small (OverlapsBuilding i) = omega arith
+
+-- nothing was put
+pub nothing-put : (was : List ℕ) (at : ℕ) → at ≤ length was → Put was at [] was at
+nothing-put was at h = record { count = omega arith; room = h; area = sym (take-append-drop at was) }
+
+-- one word was stored
+pub stored : (was : List ℕ) (at w : ℕ) → at < length was → Put was at (w ∷ []) (set was at w) (at + 1)
+stored was at w h = record { count = omega arith; room = omega arith; area = rw (add-one at) (set-split was at w h) }
+
+module _ {a t b : List ℕ} {i j : ℕ} (p : Put a i t b j) where
+  -- what was put, with what stood before it, are the first words
+  front-length : length (take i a ++ t) ≡ j
+  front-length = omega (arith, length-append (take i a) t, length-take-le i a (omega arith), p .count)
+
+  split : b ≡ (take i a ++ t) ++ drop j a
+  split = p .area ∙ sym (append-assoc (take i a) t (drop j a))
+
+  pub put-length : length b ≡ length a
+  put-length = ap length split ∙ simp (length-append, length-drop) (omega (arith, length-append (take i a) t, front-length, p .room))
+
+  first-words : take j b ≡ take i a ++ t
+  first-words = ap (take j) split ∙ take-at (take i a ++ t) (drop j a) j front-length
+
+  rest : (k : ℕ) → j ≤ k → drop k b ≡ drop k a
+  rest k h =
+      let e : k ≡ length (take i a ++ t) + (k - j) = omega (arith, front-length) in
+      let d : j + (k - j) ≡ k = omega arith in
+      ap (drop k) split
+      ∙ (ap (λ (n : ℕ). drop n ((take i a ++ t) ++ drop j a)) e
+      ∙ (drop-append-add (take i a ++ t) (drop j a) (k - j)
+      ∙ (drop-drop (k - j) j a ∙ ap (λ (n : ℕ). drop n a) d)))
+
+  -- one part behind the other is both parts
+  pub then : {u c : List ℕ} {k : ℕ} → Put b j u c k → Put a i (t ++ u) c k
+  then {u} {c} {k} q = record {
+    count = omega (arith, p .count, q .count, length-append t u);
+    room = omega (arith, put-length, q .room);
+    area =
+        q .area
+        ∙ rw (first-words, rest k (omega (arith, q .count)))
+        (append-assoc (take i a) t (u ++ drop k a) ∙ ap (λ (l : List ℕ). take i a ++ l) (sym (append-assoc t u (drop k a))));
+  }

@@ -1,0 +1,33 @@
+-- The first cell on which no building can stand. Assumes nothing.
+use mathlib.Core.Path.{_≡_}
+use mathlib.Core.Bool.{Bool, true, false, not, _&&_}
+use mathlib.Core.List.{List, [], _∷_}
+use Prim.Native.Nat.{ℕ, _≤_, _<_}
+use lib.ListN.{getD}
+use Rattle.model.specs.Ground.{walkable, buildable}
+use Rattle.placement.specs.declared.Found.{Found}
+use Rattle.placement.specs.declared.Found.the-variants.{At, Nothing}
+
+-- the cell is unwalkable or unbuildable
+abbrev pub unfit : List ℕ → ℕ → Bool
+unfit cells i = not (walkable (getD cells i 0) && buildable (getD cells i 0))
+
+-- no cell from one place to another is unfit
+abbrev pub Fit : List ℕ → ℕ → ℕ → Type 0
+Fit cells from to = (j : ℕ) → from ≤ j → j < to → unfit cells j ≡ false
+
+-- cell i is the first unfit one from there on
+pub record UnfitAt (cells : List ℕ) (from to i : ℕ) : Type 0 where
+  pub low : from ≤ i
+  pub high : i < to
+  pub here : unfit cells i ≡ true
+  pub before : Fit cells from i
+
+abbrev pub FirstUnfit : List ℕ → ℕ → ℕ → Found → Type 0
+FirstUnfit cells from to (At i) = UnfitAt cells from to i
+FirstUnfit cells from to Nothing = Fit cells from to
+
+-- the first of a list
+abbrev pub head : List ℕ → Found
+head [] = Nothing
+head (i ∷ is) = At i

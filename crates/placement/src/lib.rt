@@ -1,0 +1,90 @@
+// Placement issues: what is wrong with where each building of a plan stands, as words in a lent area, and both boxes of each building.
+ghost use mathlib.Core.Path.{_≡_};
+ghost use mathlib.Core.Bool.{_&&_};
+ghost use mathlib.Core.List.{map};
+ghost use Prim.Native.Nat.{_+_, _≤_, _<_};
+ghost use lib.ListN.{length};
+ghost use Rattle.model.specs.Ground.{walkable, buildable};
+ghost use Rattle.model.specs.Placement.{index, kind, issueWord, noted};
+ghost use Rattle.placement.specs.Issues.{Put, issueOf};
+ghost use Rattle.placement.specs.Cells.{FirstUnfit};
+
+pub enum PlacementIssue {
+    OutOfMap,
+    UnbuildableTerrain,
+    OverlapsObstacle { index: usize },
+    OverlapsBuilding { index: usize },
+}
+
+// Its kind, 0 to 3 in document 01's order.
+fn kind_of(issue: PlacementIssue) -> u32
+    ensures { λ r. ⌜ r ≡ kind (issueOf issue) ⌝ }
+{
+    match issue {
+        PlacementIssue::OutOfMap => 0,
+        PlacementIssue::UnbuildableTerrain => 1,
+        PlacementIssue::OverlapsObstacle { index: _ } => 2,
+        PlacementIssue::OverlapsBuilding { index: _ } => 3,
+    }
+}
+
+// What it overlaps, and 0 where the kind has no index.
+fn index_of(issue: PlacementIssue) -> usize
+    ensures { λ r. ⌜ r ≡ index (issueOf issue) ⌝ }
+{
+    match issue {
+        PlacementIssue::OutOfMap => 0,
+        PlacementIssue::UnbuildableTerrain => 0,
+        PlacementIssue::OverlapsObstacle { index } => index,
+        PlacementIssue::OverlapsBuilding { index } => index,
+    }
+}
+
+// The issue's word: building (5 bits), kind (2), zero (12), index (13).
+pub fn issue_word(building: usize, issue: PlacementIssue) -> u32
+    requires { ⌜ (building < 32) × (index (issueOf issue) < 8192) ⌝ }
+    ensures { λ r. ⌜ r ≡ issueWord building (issueOf issue) ⌝ }
+{
+    let kind = kind_of(issue);
+    let index = index_of(issue);
+    building as u32 * 134217728 + kind * 33554432 + index as u32
+}
+
+// Writes the issue's word behind the first `at` words if it was found, and answers how many words stand there then.
+pub fn put_if(found: bool, building: usize, issue: PlacementIssue, issues: &mut [u32], at: usize) -> usize
+    requires { ⌜ (building < 32) × ((index (issueOf issue) < 8192) × (at + length (noted found (issueOf issue)) ≤ length (now issues))) ⌝ }
+    ensures { λ r. ⌜ Put (now (issues .entry)) at (map (issueWord building) (noted found (issueOf issue))) (now (issues .exit)) r ⌝ }
+{
+    if found {
+        issues[at] = issue_word(building, issue);
+        return at + 1;
+    }
+    at
+}
+
+// Whether a building can stand on the cell.
+pub fn sound(cell: u8) -> bool
+    ensures { λ r. ⌜ r ≡ walkable cell && buildable cell ⌝ }
+{
+    (cell / 16 % 2 == 1) & (cell / 8 % 2 == 1)
+}
+
+pub enum Found {
+    At(usize),
+    Nothing,
+}
+
+// The first of the cells `from` to `to` on which no building can stand.
+pub fn first_unfit(cells: &[u8], from: usize, to: usize) -> Found
+    requires { ⌜ to ≤ length (now cells) ⌝ }
+    ensures { λ r. ⌜ FirstUnfit (now (cells .entry)) from to r ⌝ }
+{
+    let mut i = from;
+    while i < to {
+        if !sound(cells[i]) {
+            return Found::At(i);
+        }
+        i += 1;
+    }
+    Found::Nothing
+}
