@@ -7,8 +7,9 @@ use native.Mathlib.Decide.{decLt, decLe}
 use native.Mathlib.Nat.{mod-lt, div-add-mod'}
 use native.Mathlib.Omega.{arith}
 use borrow.Author.Tests.{lt-ltb, le-ltb}
-use lib.Dec.{ltb}
+use lib.Dec.{T, ltb, ltb→lt}
 use lib.ListN.{length, getD}
+use Rattle.numbers.proofs.Tests.{left-of, right-of}
 use Rattle.numbers.proofs.Places.{row-below, one-place}
 use Rattle.model.specs.declared.PixelRect.{PixelRect}
 use Rattle.model.specs.declared.WallBuilding.{WallBuilding}
@@ -18,7 +19,7 @@ use Rattle.model.specs.Ground.{Ground, walkable, buildable}
 use Rattle.model.specs.Placement.{badCells}
 use Rattle.placement.specs.declared.Found.{Found}
 use Rattle.placement.specs.declared.Found.the-variants.{At, Nothing}
-use Rattle.placement.specs.Cells.{Fit, unfit, head}
+use Rattle.placement.specs.Cells.{Fit, unfit, head, badUnder, leftCell, rightCell, topCell, bottomCell, Covers}
 
 -- before the first cell there is none
 pub none-yet : (cells : List ℕ) (from : ℕ) → Fit cells from from
@@ -52,3 +53,25 @@ module _ {A : Type 0} (test : ℕ → A → Bool) (d : A) where
       let s : n + suc i ≡ suc n + i = omega arith in
       rw (rw e at (h 0 (omega arith)))
       (somewhere (suc n) i l (omega arith) (rw s at t) (λ j m. let u : n + suc j ≡ suc n + j = omega arith in rw u at (h (suc j) (omega arith))) ∙ ap At (sym s))
+
+-- ---- the cells under a building
+decided : (a b : Bool) → (T a → b ≡ false) → a && b ≡ false
+decided true b h = h tt
+decided false b h = refl
+
+module _ (w : ℕ) (b : WallBuilding) (j : ℕ) where
+  -- a cell meets the footprint only where its column and its row are the building's
+  pub sides : T (meets (footprintBox b) (cellBox w j)) → (leftCell b ≤ j % w) × (j % w < rightCell b) × (topCell b ≤ j / w) × (j / w < bottomCell b)
+  unfolding meets
+  sides t =
+      let across = left-of _ _ (left-of _ _ t) in
+      let l = ltb→lt _ _ (left-of _ _ across) in
+      let r = ltb→lt _ _ (right-of _ _ across) in
+      let u = ltb→lt _ _ (right-of _ _ (left-of _ _ t)) in
+      let d = ltb→lt _ _ (right-of _ _ t) in
+      (omega arith, omega arith, omega arith, omega arith)
+
+  -- and there it does
+  pub under : leftCell b ≤ j % w → j % w < rightCell b → topCell b ≤ j / w → j / w < bottomCell b → meets (footprintBox b) (cellBox w j) ≡ true
+  unfolding meets
+  under l r u d = rw (lt-ltb _ _ (omega arith), lt-ltb _ _ (omega arith), lt-ltb _ _ (omega arith), lt-ltb _ _ (omega arith))
