@@ -1,13 +1,15 @@
 // Placement issues: what is wrong with where each building of a plan stands, as words in a lent area, and both boxes of each building.
 ghost use mathlib.Core.Path.{_≡_};
-ghost use mathlib.Core.Bool.{_&&_};
+ghost use mathlib.Core.Bool.{not, _&&_};
 ghost use mathlib.Core.List.{map};
 ghost use Prim.Native.Nat.{_+_, _≤_, _<_};
 ghost use lib.ListN.{length};
 ghost use Rattle.model.specs.Ground.{walkable, buildable};
-ghost use Rattle.model.specs.Placement.{index, kind, issueWord, noted};
+ghost use Rattle.model.specs.Placement.{index, kind, issueWord, noted, nonEmpty};
 ghost use Rattle.placement.specs.Issues.{Put, issueOf};
-ghost use Rattle.placement.specs.Cells.{FirstUnfit};
+ghost use Rattle.placement.specs.Cells.{FirstUnfit, Covers, badUnder, head};
+
+use model::WallBuilding;
 
 pub enum PlacementIssue {
     OutOfMap,
@@ -87,4 +89,38 @@ pub fn first_unfit(cells: &[u8], from: usize, to: usize) -> Found
         i += 1;
     }
     Found::Nothing
+}
+
+// The first bad cell under a building, by rows and then from the left. A tile is four cells wide and high.
+pub fn first_bad_cell(width: u32, cells: &[u8], b: WallBuilding) -> Found
+    requires { ⌜ Covers width (now cells) b ⌝ }
+    ensures { λ r. ⌜ r ≡ head (badUnder width (now (cells .entry)) b) ⌝ }
+{
+    let w = width as usize;
+    let left = 4 * b.tile.x as usize;
+    let right = left + 4 * b.footprint.width_tiles as usize;
+    let top = 4 * b.tile.y as usize;
+    let bottom = top + 4 * b.footprint.height_tiles as usize;
+    let mut y = top;
+    while y < bottom {
+        let row = y * w;
+        let found = first_unfit(cells, row + left, row + right);
+        let Found::Nothing = found else {
+            return found;
+        };
+        y += 1;
+    }
+    Found::Nothing
+}
+
+// Whether every cell under a building in the map is walkable and buildable.
+pub fn footprint_buildable(width: u32, cells: &[u8], b: WallBuilding) -> bool
+    requires { ⌜ Covers width (now cells) b ⌝ }
+    ensures { λ r. ⌜ r ≡ not (nonEmpty (badUnder width (now (cells .entry)) b)) ⌝ }
+{
+    let found = first_bad_cell(width, cells, b);
+    let Found::Nothing = found else {
+        return false;
+    };
+    true
 }
