@@ -1,3 +1,6 @@
 -- The laws that the proofs of several functions cite.
 pub mod Puts
 pub mod Cells
+pub mod Each
+pub mod Obstacles
+pub mod Counts

@@ -1,3 +1,4 @@
 -- What the contracts of this crate's inner functions say, over the definitions of `model`.
 pub mod Issues
 pub mod Cells
+pub mod Assessed

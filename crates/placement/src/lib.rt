@@ -2,13 +2,21 @@
 ghost use mathlib.Core.Path.{_≡_};
 ghost use mathlib.Core.Bool.{not, _&&_};
 ghost use mathlib.Core.List.{map};
-ghost use Prim.Native.Nat.{_+_, _≤_, _<_};
-ghost use lib.ListN.{length};
-ghost use Rattle.model.specs.Ground.{walkable, buildable};
+ghost use Prim.Native.Nat.{_+_, _*_, _≤_, _<_};
+ghost use lib.ListN.{length, getD};
+ghost use Rattle.model.specs.declared.Geometry.the-variants.{Fits};
+ghost use Rattle.model.specs.Boxes.{inMap, footprintBox};
+ghost use Rattle.model.specs.Check.{noRect};
+ghost use Rattle.model.specs.Ground.{walkable, buildable, rects};
+ghost use Rattle.model.specs.Refusal.{geometryOf};
+ghost use Rattle.placement.specs.Assessed.{boxesOf};
 ghost use Rattle.model.specs.Placement.{index, kind, issueWord, noted, nonEmpty};
 ghost use Rattle.placement.specs.Issues.{Put, issueOf};
 ghost use Rattle.placement.specs.Cells.{FirstUnfit, Covers, badUnder, head};
 
+use model::BuildingGeometry;
+use model::Geometry;
+use model::PixelRect;
 use model::WallBuilding;
 
 pub enum PlacementIssue {
@@ -123,4 +131,70 @@ pub fn footprint_buildable(width: u32, cells: &[u8], b: WallBuilding) -> bool
         return false;
     };
     true
+}
+
+// The rectangle that no obstacle and no building has.
+fn no_rect() -> PixelRect
+    ensures { λ r. ⌜ r ≡ noRect ⌝ }
+{
+    PixelRect {
+        left: 0,
+        top: 0,
+        right: 0,
+        bottom: 0,
+    }
+}
+
+// Both boxes of a building that validation has passed, so that i32 holds them.
+fn boxes_of(b: WallBuilding) -> BuildingGeometry
+    requires { ⌜ geometryOf b ≡ Fits (boxesOf b) ⌝ }
+    ensures { λ r. ⌜ r ≡ boxesOf b ⌝ }
+{
+    let geometry = boxes::building_geometry(b);
+    match geometry {
+        Geometry::Fits(boxes) => boxes,
+        Geometry::Overflow => {
+            let none = no_rect();
+            BuildingGeometry {
+                footprint: none,
+                collision: none,
+            }
+        }
+    }
+}
+
+// Whether one of a building's boxes leaves the map.
+fn out_of_map(width: u32, height: u32, boxes: BuildingGeometry) -> bool
+    ensures { λ r. ⌜ r ≡ not (inMap width height (boxes .footprint) && inMap width height (boxes .collision)) ⌝ }
+{
+    let footprint = boxes.footprint;
+    let collision = boxes.collision;
+    let inside = boxes::rect_in_map(footprint, width, height);
+    let clear = boxes::rect_in_map(collision, width, height);
+    !(inside & clear)
+}
+
+// Whether a building's footprint is in the map and has a bad cell.
+fn on_bad_terrain(width: u32, height: u32, cells: &[u8], b: WallBuilding, footprint: PixelRect) -> bool
+    requires { ⌜ (length (now cells) ≡ width * height) × (footprint ≡ footprintBox b) ⌝ }
+    ensures { λ r. ⌜ r ≡ inMap width height (footprintBox b) && nonEmpty (badUnder width (now (cells .entry)) b) ⌝ }
+{
+    if boxes::rect_in_map(footprint, width, height) {
+        return !footprint_buildable(width, cells, b);
+    }
+    false
+}
+
+// The obstacle of four words.
+fn obstacle_at(words: &[i32], i: usize) -> PixelRect
+    requires { ⌜ 4 * i + 3 < length (now words) ⌝ }
+    ensures { λ r. ⌜ r ≡ getD (rects (now (words .entry))) i noRect ⌝ }
+{
+    let at = 4 * i;
+    PixelRect {
+        left: words[at],
+        top: words[at + 1],
+        right: words[at + 2],
+        bottom: words[at + 3],
+    }
 }
