@@ -2,5 +2,7 @@
 pub mod Puts
 pub mod Cells
 pub mod Each
+pub mod Written
 pub mod Obstacles
+pub mod Plans
 pub mod Counts

@@ -1,13 +1,21 @@
 -- An obstacle's four words. Assumes nothing.
 use mathlib.Core.Path.{_≡_, refl, sym, ap, _∙_}
 use mathlib.Core.List.{List, [], _∷_}
-use Prim.Native.Nat.{ℕ, zero, suc, _+_, _*_, _<_}
+use Prim.Native.Nat.{ℕ, zero, suc, _+_, _*_, _^_, _<_}
 use native.Mathlib.Omega.{arith}
 use lib.IntN.{ℤ, pos}
 use lib.ListN.{length, getD}
+use lib.Signed.{mag}
+use mir.Syntax.{w32}
+use mir.Val.{toZ, ofZ}
+use mir.Facts.{toZ-ofZ}
 use Rattle.model.specs.declared.PixelRect.{PixelRect}
 use Rattle.model.specs.Ground.{rects}
 use Rattle.model.proofs.Lists.{rectAt}
+
+-- a word of a slice is what the machine reads back of it
+pub word : (l : List ℤ) (k : ℕ) → mag (getD l k (pos 0)) < 2 ^ 31 → toZ w32 (ofZ w32 (getD l k (pos 0))) ≡ getD l k (pos 0)
+word l k h = toZ-ofZ {w = w32} {z = getD l k (pos 0)} (record { sfits = h })
 
 -- past four elements
 past : {A : Type 0} (l t r b : A) (rest : List A) (d : A) (k n : ℕ) → n ≡ suc (suc (suc (suc k))) → getD (l ∷ t ∷ r ∷ b ∷ rest) n d ≡ getD rest k d

@@ -6,18 +6,21 @@ ghost use Prim.Native.Nat.{_+_, _*_, _≤_, _<_};
 ghost use lib.ListN.{length, getD};
 ghost use Rattle.model.specs.declared.Geometry.the-variants.{Fits};
 ghost use Rattle.model.specs.Boxes.{inMap, footprintBox};
-ghost use Rattle.model.specs.Check.{noRect};
-ghost use Rattle.model.specs.Ground.{walkable, buildable, rects};
+ghost use Rattle.model.specs.Check.{noRect, noPlacement};
+ghost use Rattle.model.specs.Ground.{walkable, buildable, rects, built};
 ghost use Rattle.model.specs.Refusal.{geometryOf};
-ghost use Rattle.placement.specs.Assessed.{boxesOf};
-ghost use Rattle.model.specs.Placement.{index, kind, issueWord, noted, nonEmpty};
+ghost use Rattle.placement.specs.Assessed.{Fitting, Assessable, OneAssessed, AllAssessed, ground, boxesOf, buildingAt, obstacleWords, buildingWords, groundWords};
+ghost use Rattle.model.specs.Placement.{index, kind, issueWord, noted, nonEmpty, issuesOf};
+ghost use Rattle.model.specs.Areas.{issueRoom};
 ghost use Rattle.placement.specs.Issues.{Put, issueOf};
 ghost use Rattle.placement.specs.Cells.{FirstUnfit, Covers, badUnder, head};
 
 use model::BuildingGeometry;
 use model::Geometry;
 use model::PixelRect;
+use model::Plan;
 use model::WallBuilding;
+use model::WallPlacement;
 
 pub enum PlacementIssue {
     OutOfMap,
@@ -191,10 +194,139 @@ fn obstacle_at(words: &[i32], i: usize) -> PixelRect
     ensures { λ r. ⌜ r ≡ getD (rects (now (words .entry))) i noRect ⌝ }
 {
     let at = 4 * i;
+    let left = words[at];
+    let top = words[at + 1];
+    let right = words[at + 2];
+    let bottom = words[at + 3];
     PixelRect {
-        left: words[at],
-        top: words[at + 1],
-        right: words[at + 2],
-        bottom: words[at + 3],
+        left,
+        top,
+        right,
+        bottom,
     }
+}
+
+// Writes OverlapsObstacle for each obstacle that meets the footprint, index rising.
+fn overlaps_obstacles(words: &[i32], footprint: PixelRect, building: usize, issues: &mut [u32], at: usize) -> usize
+    requires { ⌜ (building < 32) × (length (rects (now words)) ≤ 8192) ⌝ }
+    requires { ⌜ at + length (obstacleWords building footprint (rects (now words))) ≤ length (now issues) ⌝ }
+    ensures { λ r. ⌜ Put (now (issues .entry)) at (obstacleWords building footprint (rects (now (words .entry)))) (now (issues .exit)) r ⌝ }
+{
+    let count = words.len() / 4;
+    let mut next = at;
+    let mut i = 0;
+    while i < count {
+        let obstacle = obstacle_at(words, i);
+        let found = boxes::intersects(footprint, obstacle);
+        next = put_if(found, building, PlacementIssue::OverlapsObstacle { index: i }, issues, next);
+        i += 1;
+    }
+    next
+}
+
+// Writes OverlapsBuilding for each other building whose footprint meets this one, index rising.
+fn overlaps_buildings(plan: Plan, footprint: PixelRect, building: usize, issues: &mut [u32], at: usize) -> usize
+    requires { ⌜ (building < 32) × Fitting plan ⌝ }
+    requires { ⌜ at + length (buildingWords building footprint (built plan)) ≤ length (now issues) ⌝ }
+    ensures { λ r. ⌜ Put (now (issues .entry)) at (buildingWords building footprint (built plan)) (now (issues .exit)) r ⌝ }
+{
+    let count = plan.count;
+    let mut next = at;
+    let mut i = 0;
+    while i < count {
+        let other = plan.buildings[i];
+        let boxes = boxes_of(other);
+        let found = (i != building) & boxes::intersects(footprint, boxes.footprint);
+        next = put_if(found, building, PlacementIssue::OverlapsBuilding { index: i }, issues, next);
+        i += 1;
+    }
+    next
+}
+
+// Writes OutOfMap if one of the boxes leaves the map, and UnbuildableTerrain if the footprint is in it and has a bad cell.
+fn ground_issues(
+    width: u32,
+    height: u32,
+    cells: &[u8],
+    b: WallBuilding,
+    boxes: BuildingGeometry,
+    building: usize,
+    issues: &mut [u32],
+    at: usize,
+) -> usize
+    requires { ⌜ (building < 32) × ((length (now cells) ≡ width * height) × (boxes ≡ boxesOf b)) ⌝ }
+    requires { ⌜ at + length (groundWords width height (now cells) building b) ≤ length (now issues) ⌝ }
+    ensures { λ r. ⌜ Put (now (issues .entry)) at (groundWords width height (now (cells .entry)) building b) (now (issues .exit)) r ⌝ }
+{
+    let out = out_of_map(width, height, boxes);
+    let next = put_if(out, building, PlacementIssue::OutOfMap, issues, at);
+    let bad = on_bad_terrain(width, height, cells, b, boxes.footprint);
+    put_if(bad, building, PlacementIssue::UnbuildableTerrain, issues, next)
+}
+
+// Both boxes of one building and the number of its issues, whose words it writes behind the first `at`.
+fn assess_building(
+    width: u32,
+    height: u32,
+    cells: &[u8],
+    words: &[i32],
+    plan: Plan,
+    building: usize,
+    issues: &mut [u32],
+    at: usize,
+) -> WallPlacement
+    requires { ⌜ Assessable (ground width height (now cells) (now words)) plan × (building < plan .count) ⌝ }
+    requires { ⌜ at + length (issuesOf (ground width height (now cells) (now words)) (built plan) building (buildingAt plan building)) ≤ length (now issues) ⌝ }
+    ensures { λ r. ⌜ OneAssessed (ground width height (now (cells .entry)) (now (words .entry))) plan building (now (issues .entry)) at (now (issues .exit)) r ⌝ }
+{
+    let b = plan.buildings[building];
+    let boxes = boxes_of(b);
+    let footprint = boxes.footprint;
+    let collision = boxes.collision;
+    let on_ground = ground_issues(width, height, cells, b, boxes, building, issues, at);
+    let on_obstacles = overlaps_obstacles(words, footprint, building, issues, on_ground);
+    let end = overlaps_buildings(plan, footprint, building, issues, on_obstacles);
+    WallPlacement {
+        footprint,
+        collision,
+        issues: end - at,
+    }
+}
+
+fn no_placement() -> WallPlacement
+    ensures { λ r. ⌜ r ≡ noPlacement ⌝ }
+{
+    let none = no_rect();
+    WallPlacement {
+        footprint: none,
+        collision: none,
+        issues: 0,
+    }
+}
+
+// Both boxes and the number of issues of each building. The issues' words stand first in `issues`, by building index.
+pub fn assess_placements(
+    width: u32,
+    height: u32,
+    cells: &[u8],
+    words: &[i32],
+    plan: Plan,
+    issues: &mut [u32],
+) -> [WallPlacement; 32]
+    requires { ⌜ Assessable (ground width height (now cells) (now words)) plan ⌝ }
+    requires { ⌜ issueRoom (length (rects (now words))) (plan .count) ≤ length (now issues) ⌝ }
+    ensures { λ r. ⌜ AllAssessed (ground width height (now (cells .entry)) (now (words .entry))) plan (now (issues .entry)) (now (issues .exit)) r ⌝ }
+{
+    let none = no_placement();
+    let mut placements = [none; 32];
+    let count = plan.count;
+    let mut at = 0;
+    let mut i = 0;
+    while i < count {
+        let placement = assess_building(width, height, cells, words, plan, i, issues, at);
+        placements[i] = placement;
+        at += placement.issues;
+        i += 1;
+    }
+    placements
 }

@@ -1,3 +1,8 @@
+use Rattle.placement.specs.Assessed.{boxesOf}
+use Rattle.model.specs.declared.Geometry.the-variants.{Fits, Overflow}
+use native.Mathlib.Omega.{arith}
+use Prim.Native.Nat.{ℕ}
+use mathlib.Core.Path.{_≡_, sym, _∙_}
 use borrow.Author.Needs.{needs}
 use Rattle.placement.proofs.boxes_of.Statement.{statement}
 use Rattle.placement.proofs.boxes_of.Tie as tie
@@ -24,11 +29,18 @@ no-rect-requires c κs = search needs
 
 -- src/lib.rt:149:1
 returns : tie.Need-returns
-returns c = ?
+returns c =
+    let s = c .before .before .before .before in
+    let e : Fits (c .before .geometry .given .0 .0) ≡ Fits (boxesOf (s .args .b)) = sym (c .before .geometry .given .1) ∙ (c .before .before .before .building-geometry .ensures ∙ s .pre) in
+    cc
 
 -- src/lib.rt:149:1
 returns-2 : tie.Need-returns-2
-returns-2 c = ?
+returns-2 c =
+    let s = c .before .before .before .before in
+    let e : Overflow ≡ Fits (boxesOf (s .args .b)) = sym (c .before .enum-told .given .1) ∙ (c .before .before .before .building-geometry .ensures ∙ s .pre) in
+    let z : _≡_ {A = ℕ} 0 1 = cc in
+    absurd (omega arith)
 
 pub boxes-of-spec : {M : Type 1} → statement M
 boxes-of-spec =

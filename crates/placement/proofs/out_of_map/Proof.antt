@@ -15,7 +15,7 @@ rect-in-map-requires-2 c κs = search needs
 
 -- src/lib.rt:167:1
 returns : tie.Need-returns
-returns c = ?
+returns c = rw (c .before .rect-in-map .ensures, c .rect-in-map2 .ensures)
 
 pub out-of-map-spec : {M : Type 1} → statement M
 out-of-map-spec = tie.close (tie.spec rect-in-map-requires rect-in-map-requires-2 returns)
