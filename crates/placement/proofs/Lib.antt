@@ -5,4 +5,5 @@ pub mod Each
 pub mod Written
 pub mod Obstacles
 pub mod Plans
+pub mod Parts
 pub mod Counts

@@ -1,12 +1,12 @@
 -- Words put into an area, one part behind the other. Assumes nothing.
 use mathlib.Core.Path.{_≡_, refl, sym, ap, subst, _∙_}
-use mathlib.Core.List.{List, [], _∷_, _++_, append-assoc}
+use mathlib.Core.List.{List, [], _∷_, _++_, map, append-assoc}
 use Prim.Native.Nat.{ℕ, suc, _+_, _-_, _≤_, _<_}
 use native.Mathlib.Numerals.{add-one}
 use native.Mathlib.Omega.{arith}
-use lib.ListN.{length, take, drop, set, length-append, length-drop, take-append-drop}
+use lib.ListN.{length, take, drop, set, length-append, length-drop, length-map, take-append-drop}
 use lib.Seq.{length-take-le, set-split, take-at, drop-append-add, drop-drop}
-use Rattle.model.specs.Placement.{Issue, OutOfMap, UnbuildableTerrain, OverlapsObstacle, OverlapsBuilding, kind}
+use Rattle.model.specs.Placement.{Issue, OutOfMap, UnbuildableTerrain, OverlapsObstacle, OverlapsBuilding, kind, issueWord}
 use Rattle.placement.specs.Issues.{Put}
 
 -- two bits hold a kind
@@ -57,3 +57,8 @@ module _ {a t b : List ℕ} {i j : ℕ} (p : Put a i t b j) where
         ∙ rw (first-words, rest k (omega (arith, q .count)))
         (append-assoc (take i a) t (u ++ drop k a) ∙ ap (λ (l : List ℕ). take i a ++ l) (sym (append-assoc t u (drop k a))));
   }
+
+-- the words of two lists of issues are as many as the issues
+pub words-length : (k : ℕ) (x y : List Issue) → length (map (issueWord k) x ++ map (issueWord k) y) ≡ length x + length y
+words-length k x y =
+    omega (arith, length-append (map (issueWord k) x) (map (issueWord k) y), length-map x (issueWord k), length-map y (issueWord k))

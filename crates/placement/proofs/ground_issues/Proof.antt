@@ -1,3 +1,15 @@
+use Rattle.placement.proofs.Puts.{put-length, then, words-length}
+use Rattle.placement.specs.Cells.{badUnder}
+use Rattle.model.specs.Placement.{Issue, OutOfMap, UnbuildableTerrain, noted, nonEmpty, issueWord}
+use Rattle.model.specs.Boxes.{inMap, footprintBox, collisionBox}
+use Rattle.model.specs.declared.BuildingGeometry.{BuildingGeometry}
+use lib.ListN.{length, length-map}
+use denote.Ref.{now}
+use native.Mathlib.Omega.{arith}
+use Prim.Native.Nat.{ℕ, _+_, _≤_}
+use mathlib.Core.List.{List}
+use mathlib.Core.Bool.{Bool, not, _&&_}
+use mathlib.Core.Path.{_≡_, ap, _∙_}
 use borrow.Author.Needs.{needs}
 use Rattle.placement.proofs.ground_issues.Statement.{statement}
 use Rattle.placement.proofs.ground_issues.Tie as tie
@@ -7,21 +19,45 @@ use Rattle.placement.proofs.on_bad_terrain.Reads as on-bad-terrain-read
 use Rattle.placement.proofs.out_of_map.Reads as out-of-map-reads
 use Rattle.placement.proofs.put_if.Reads as put-if-reads
 
+-- the two issues, each where its test holds
+abbrev out : tie.Start → List Issue
+out s = noted (not (inMap (s .args .width) (s .args .height) (footprintBox (s .args .b)) && inMap (s .args .width) (s .args .height) (collisionBox (s .args .b)))) OutOfMap
+
+abbrev bad : tie.Start → List Issue
+bad s = noted (inMap (s .args .width) (s .args .height) (footprintBox (s .args .b)) && nonEmpty (badUnder (s .args .width) (now (s .args .cells)) (s .args .b))) UnbuildableTerrain
+
+room : (s : tie.Start) → s .args .at + (length (out s) + length (bad s)) ≤ length (now (s .args .issues))
+room s = omega (arith, s .pre .1, words-length (s .args .building) (out s) (bad s))
+
+-- the first test is of the building's boxes
+out-is : (c : tie.After-out-of-map) → c .out-of-map .result ≡ not (inMap (c .before .before .before .args .width) (c .before .before .before .args .height) (footprintBox (c .before .before .before .args .b)) && inMap (c .before .before .before .args .width) (c .before .before .before .args .height) (collisionBox (c .before .before .before .args .b)))
+out-is c =
+    let s = c .before .before .before in
+    c .out-of-map .ensures ∙ ap (λ (g : BuildingGeometry). not (inMap (s .args .width) (s .args .height) (g .footprint) && inMap (s .args .width) (s .args .height) (g .collision))) (s .pre .0 .1 .1)
+
 -- src/lib.rt:261:9
 out-of-map-requires : tie.Need-out-of-map-requires
 out-of-map-requires c κs = search needs
 
 -- src/lib.rt:262:9
 put-if-requires : tie.Need-put-if-requires
-put-if-requires c κs = ?
+put-if-requires c κs =
+    let s = c .before .before .before .before in
+    (s .pre .0 .0, (omega arith, rw (out-is (c .before)) (omega (arith, room s))))
 
 -- src/lib.rt:263:9
 on-bad-terrain-requires : tie.Need-on-bad-terrain-requires
-on-bad-terrain-requires c κs = ?
+on-bad-terrain-requires c κs =
+    let s = c .before .before .before .before .before .before .before in
+    (s .pre .0 .1 .0, ap (λ (g : BuildingGeometry). g .footprint) (s .pre .0 .1 .1))
 
 -- src/lib.rt:264:5
 put-if-requires-2 : tie.Need-put-if-requires-2
-put-if-requires-2 c κs = ?
+put-if-requires-2 c κs =
+    let p = c .before .before .before .before in
+    let s = p .before .before .before .before .before in
+    let e = p .put-if .ensures in
+    (s .pre .0 .0, (omega arith, rw (c .before .on-bad-terrain .ensures) (omega (arith, room s, (rw (out-is (p .before .before)) at e) .count, put-length e, length-map (out s) (issueWord (s .args .building))))))
 
 -- src/lib.rt:247:1
 same-length : tie.Need-same-length
@@ -29,7 +65,10 @@ same-length c = search needs
 
 -- src/lib.rt:247:1
 returns : tie.Need-returns
-returns c = ?
+returns c =
+    let p = c .before .before in
+    let q = p .before .before .before .before .before in
+    then (rw (out-is (q .before .before)) at (q .put-if .ensures)) (rw (p .before .before .on-bad-terrain .ensures) at (p .put-if2 .ensures))
 
 pub ground-issues-spec : {M : Type 1} → statement M
 ground-issues-spec =

@@ -11,7 +11,7 @@ no-rect-requires c κs = search needs
 
 -- src/lib.rt:296:1
 returns : tie.Need-returns
-returns c = ?
+returns c = rw (c .no-rect .ensures)
 
 pub no-placement-spec : {M : Type 1} → statement M
 no-placement-spec = tie.close (tie.spec no-rect-requires returns)
