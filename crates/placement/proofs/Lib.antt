@@ -7,3 +7,4 @@ pub mod Obstacles
 pub mod Plans
 pub mod Parts
 pub mod Counts
+pub mod Assessed
