@@ -3,15 +3,15 @@ use mathlib.Core.Path.{_≡_, refl, sym, ap, subst, _∙_}
 use mathlib.Core.List.{List, [], _∷_, _++_, append-assoc}
 use Prim.Native.Nat.{ℕ, suc, _+_, _-_, _≤_, _<_}
 use native.Mathlib.Omega.{arith}
-use lib.ListN.{length, getD, take, drop, set, replicate, length-map}
+use lib.ListN.{length, take, drop, set, replicate, length-map}
 use lib.Seq.{set-at, length-take-le}
 use Rattle.model.specs.declared.Plan.{Plan}
 use Rattle.model.specs.declared.WallBuilding.{WallBuilding}
 use Rattle.model.specs.declared.WallPlacement.{WallPlacement}
 use Rattle.model.specs.Ground.{Ground, obstacles, built}
 use Rattle.model.specs.Placement.{issuesOf, issueWord, placementOf, placements, issueWords}
-use Rattle.model.specs.Areas.{issueRoom, begun}
-use Rattle.model.specs.Check.{noPlacement, padded}
+use Rattle.model.specs.Areas.{issueRoom}
+use Rattle.model.specs.Check.{noPlacement}
 use Rattle.placement.specs.Issues.{Put}
 use Rattle.placement.specs.Assessed.{OneAssessed, AllAssessed, noBuilding, buildingAt}
 use Rattle.placement.proofs.Puts.{nothing-put, put-length, then}
@@ -43,10 +43,10 @@ module _ (g : Ground) (plan : Plan) (was : List ℕ) where
           each-room (buildingPart g (built plan)) (built plan) i noBuilding h,
           length-map (issuesOf g (built plan) i (buildingAt plan i)) (issueWord i),
           ap length (words-each g (built plan) 0 (built plan)),
-          room-enough g (built plan)
+          room-enough g (built plan),
         )
 
-    pub after-turn : {now′ : List ℕ} {r : WallPlacement} → i < 32 → OneAssessed g plan i now at now′ r → SoFar (i + 1) now′ (at + r .issues) (set ps i r)
+    pub after-turn : {now′ : List ℕ} {r : WallPlacement} → i < 32 → OneAssessed g (built plan) i (buildingAt plan i) now at now′ r → SoFar (i + 1) now′ (at + r .issues) (set ps i r)
     after-turn {now′} {r} small one = record {
       put = subst (λ (ws : List ℕ). Put was 0 ws now′ (at + r .issues)) (sym (each-next (buildingPart g (built plan)) (built plan) i noBuilding h)) (then (s .put) (one .put));
       placed =

@@ -1,14 +1,14 @@
 -- Document 01's number for the issues, b(n + b + 1), is enough for b buildings and n obstacles. Assumes nothing.
-use mathlib.Core.Path.{_≡_, refl, sym, ap, _∙_}
+use mathlib.Core.Path.{_≡_, refl, ap, _∙_}
 use mathlib.Core.Bool.{Bool, true, false, not, _&&_}
 use mathlib.Core.List.{List, [], _∷_, _++_, map}
 use Prim.Native.Nat.{ℕ, suc, _+_, _*_, _≤_, _<_}
 use native.Mathlib.Nat.{suc-mul}
 use native.Mathlib.Decide.{ℕ-discrete}
 use native.Mathlib.Omega.{arith}
+use borrow.Author.Tests.{eq-eqb}
 use lib.Dec.{eqb}
 use lib.ListN.{length, length-append, length-map}
-use borrow.Author.Tests.{eq-eqb}
 use Rattle.model.specs.declared.WallBuilding.{WallBuilding}
 use Rattle.model.specs.Lists.{placesFrom, places, keepIf}
 use Rattle.model.specs.Boxes.{meets, inMap, footprintBox, collisionBox}
@@ -60,7 +60,7 @@ module _ (g : Ground) (bs : List WallBuilding) where
         noted-most (not (inside && inMap (g .width) (g .height) (collisionBox b))) OutOfMap,
         noted-most (inside && nonEmpty (badCells g (footprintBox b))) UnbuildableTerrain,
         places-most 0 (λ i o. meets (footprintBox b) o) (obstacles g),
-        places-but-one 0 k (λ i c. not (eqb i k) && meets (footprintBox b) (footprintBox c)) bs (λ c. rw (eq-eqb k k refl) refl) (omega arith) (omega arith)
+        places-but-one 0 k (λ i c. not (eqb i k) && meets (footprintBox b) (footprintBox c)) bs (λ c. rw (eq-eqb k k refl) refl) (omega arith) (omega arith),
       )
 
   words-most : (k : ℕ) (cs : List WallBuilding) → k + length cs ≤ length bs → length (wordsFrom g bs k cs) ≤ length cs * (length (obstacles g) + length bs + 1)
@@ -73,7 +73,7 @@ module _ (g : Ground) (bs : List WallBuilding) where
         length-map (issuesOf g bs k c) (issueWord k),
         issues-most k c (omega arith),
         words-most (suc k) cs (omega arith),
-        suc-mul (length cs) (length (obstacles g) + length bs + 1)
+        suc-mul (length cs) (length (obstacles g) + length bs + 1),
       )
 
   -- all issues have room

@@ -1,7 +1,7 @@
 -- A loop over a list that writes the word of each element that passes a test: what holds after i turns, and what follows from it. Assumes nothing.
-use mathlib.Core.Path.{_≡_, refl, sym, ap, subst, _∙_}
+use mathlib.Core.Path.{sym, ap, subst, _∙_}
 use mathlib.Core.Bool.{Bool}
-use mathlib.Core.List.{List, [], _∷_, _++_, map}
+use mathlib.Core.List.{List, map}
 use Prim.Native.Nat.{ℕ, _+_, _≤_, _<_}
 use native.Mathlib.Omega.{arith}
 use lib.ListN.{length, getD, take, length-map}
@@ -33,7 +33,7 @@ module _ {A : Type 0} (k : ℕ) (issue : ℕ → Issue) (test : ℕ → A → Bo
           put-length w,
           each-room (wordsAt k issue test) l i d h,
           length-map (noted (test i (getD l i d)) (issue i)) (issueWord k),
-          ap length (found-each k issue test 0 l)
+          ap length (found-each k issue test 0 l),
         )
 
     pub after-turn : {now′ : List ℕ} {next′ : ℕ} → Put now next (wordsAt k issue test i (getD l i d)) now′ next′ → Written (i + 1) now′ next′

@@ -19,8 +19,8 @@ use Rattle.model.specs.Placement.{OutOfMap, UnbuildableTerrain, OverlapsObstacl
 use Rattle.model.specs.Refusal.{geometryOf, obstacleCap, buildingCap}
 use Rattle.model.specs.Areas.{begun}
 use Rattle.model.specs.Check.{padded}
+use Rattle.terrain.specs.Cells.{badUnder}
 use Rattle.placement.specs.Issues.{Put}
-use Rattle.placement.specs.Cells.{badUnder}
 
 abbrev pub ground : ℕ → ℕ → List ℕ → List ℤ → Ground
 ground width height cells words = record { width = width; height = height; cells = cells; words = words }
@@ -65,10 +65,10 @@ noBuilding = record {
 abbrev pub buildingAt : Plan → ℕ → WallBuilding
 buildingAt plan k = getD (built plan) k noBuilding
 
--- Building k is assessed: both boxes and its issue count, and its issue words behind the first `at`.
-pub record OneAssessed (g : Ground) (plan : Plan) (k : ℕ) (was : List ℕ) (at : ℕ) (now : List ℕ) (r : WallPlacement) : Type 0 where
-  pub placed : r ≡ placementOf g (built plan) k (buildingAt plan k)
-  pub put : Put was at (map (issueWord k) (issuesOf g (built plan) k (buildingAt plan k))) now (at + r .issues)
+-- Building b, with index k among the buildings bs, is assessed: both boxes and its issue count, and its issue words behind the first `at`.
+pub record OneAssessed (g : Ground) (bs : List WallBuilding) (k : ℕ) (b : WallBuilding) (was : List ℕ) (at : ℕ) (now : List ℕ) (r : WallPlacement) : Type 0 where
+  pub placed : r ≡ placementOf g bs k b
+  pub put : Put was at (map (issueWord k) (issuesOf g bs k b)) now (at + r .issues)
 
 -- All buildings are: their placements, and all issue words first in the area, whose rest is as it was.
 pub record AllAssessed (g : Ground) (plan : Plan) (was now : List ℕ) (r : List WallPlacement) : Type 0 where

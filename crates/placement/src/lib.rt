@@ -6,15 +6,14 @@ ghost use Prim.Native.Nat.{_+_, _*_, _≤_, _<_};
 ghost use lib.ListN.{length, getD};
 ghost use Rattle.model.specs.declared.Geometry.the-variants.{Fits};
 ghost use Rattle.model.specs.Boxes.{inMap, footprintBox};
-ghost use Rattle.model.specs.Check.{noRect, noPlacement};
-ghost use Rattle.model.specs.Ground.{walkable, buildable, rects, built};
-ghost use Rattle.model.specs.Refusal.{geometryOf};
-ghost use Rattle.placement.specs.Assessed.{Fitting, Assessable, OneAssessed, AllAssessed, ground, boxesOf, buildingAt, obstacleWords, buildingWords, groundWords};
+ghost use Rattle.model.specs.Ground.{rects, built};
 ghost use Rattle.model.specs.Placement.{index, kind, issueWord, noted, nonEmpty, issuesOf};
+ghost use Rattle.model.specs.Refusal.{geometryOf};
 ghost use Rattle.model.specs.Areas.{issueRoom};
+ghost use Rattle.model.specs.Check.{noRect, noPlacement};
+ghost use Rattle.terrain.specs.Cells.{badUnder};
 ghost use Rattle.placement.specs.Issues.{Put, issueOf};
-ghost use Rattle.placement.specs.Cells.{FirstUnfit, Covers, badUnder, head};
-
+ghost use Rattle.placement.specs.Assessed.{Fitting, Assessable, OneAssessed, AllAssessed, ground, boxesOf, buildingAt, groundWords, obstacleWords, buildingWords};
 use model::BuildingGeometry;
 use model::Geometry;
 use model::PixelRect;
@@ -22,14 +21,20 @@ use model::Plan;
 use model::WallBuilding;
 use model::WallPlacement;
 
-pub enum PlacementIssue {
+// An issue's word: building (5 bits), kind (2), zero (12), index (13).
+const BUILDING: u32 = 134217728;
+
+const KIND: u32 = 33554432;
+
+// What can be wrong with a building's place, in document 01's order.
+enum PlacementIssue {
     OutOfMap,
     UnbuildableTerrain,
     OverlapsObstacle { index: usize },
     OverlapsBuilding { index: usize },
 }
 
-// Its kind, 0 to 3 in document 01's order.
+// The issue's kind, 0 to 3.
 fn kind_of(issue: PlacementIssue) -> u32
     ensures { λ r. ⌜ r ≡ kind (issueOf issue) ⌝ }
 {
@@ -41,7 +46,7 @@ fn kind_of(issue: PlacementIssue) -> u32
     }
 }
 
-// What it overlaps, and 0 where the kind has no index.
+// The number of what is overlapped, and 0 where the kind has none.
 fn index_of(issue: PlacementIssue) -> usize
     ensures { λ r. ⌜ r ≡ index (issueOf issue) ⌝ }
 {
@@ -53,18 +58,24 @@ fn index_of(issue: PlacementIssue) -> usize
     }
 }
 
-// The issue's word: building (5 bits), kind (2), zero (12), index (13).
-pub fn issue_word(building: usize, issue: PlacementIssue) -> u32
+// The issue of a building as a word.
+fn issue_word(building: usize, issue: PlacementIssue) -> u32
     requires { ⌜ (building < 32) × (index (issueOf issue) < 8192) ⌝ }
     ensures { λ r. ⌜ r ≡ issueWord building (issueOf issue) ⌝ }
 {
     let kind = kind_of(issue);
     let index = index_of(issue);
-    building as u32 * 134217728 + kind * 33554432 + index as u32
+    building as u32 * BUILDING + kind * KIND + index as u32
 }
 
-// Writes the issue's word behind the first `at` words if it was found, and answers how many words stand there then.
-pub fn put_if(found: bool, building: usize, issue: PlacementIssue, issues: &mut [u32], at: usize) -> usize
+// Writes the issue's word behind the first `at` words if the issue was found, and answers how many words stand there then.
+fn put_if(
+    found: bool,
+    building: usize,
+    issue: PlacementIssue,
+    issues: &mut [u32],
+    at: usize,
+) -> usize
     requires { ⌜ (building < 32) × ((index (issueOf issue) < 8192) × (at + length (noted found (issueOf issue)) ≤ length (now issues))) ⌝ }
     ensures { λ r. ⌜ Put (now (issues .entry)) at (map (issueWord building) (noted found (issueOf issue))) (now (issues .exit)) r ⌝ }
 {
@@ -75,68 +86,7 @@ pub fn put_if(found: bool, building: usize, issue: PlacementIssue, issues: &mut 
     at
 }
 
-// Whether a building can stand on the cell.
-pub fn sound(cell: u8) -> bool
-    ensures { λ r. ⌜ r ≡ walkable cell && buildable cell ⌝ }
-{
-    (cell / 16 % 2 == 1) & (cell / 8 % 2 == 1)
-}
-
-pub enum Found {
-    At(usize),
-    Nothing,
-}
-
-// The first of the cells `from` to `to` on which no building can stand.
-pub fn first_unfit(cells: &[u8], from: usize, to: usize) -> Found
-    requires { ⌜ to ≤ length (now cells) ⌝ }
-    ensures { λ r. ⌜ FirstUnfit (now (cells .entry)) from to r ⌝ }
-{
-    let mut i = from;
-    while i < to {
-        if !sound(cells[i]) {
-            return Found::At(i);
-        }
-        i += 1;
-    }
-    Found::Nothing
-}
-
-// The first bad cell under a building, by rows and then from the left. A tile is four cells wide and high.
-pub fn first_bad_cell(width: u32, cells: &[u8], b: WallBuilding) -> Found
-    requires { ⌜ Covers width (now cells) b ⌝ }
-    ensures { λ r. ⌜ r ≡ head (badUnder width (now (cells .entry)) b) ⌝ }
-{
-    let w = width as usize;
-    let left = 4 * b.tile.x as usize;
-    let right = left + 4 * b.footprint.width_tiles as usize;
-    let top = 4 * b.tile.y as usize;
-    let bottom = top + 4 * b.footprint.height_tiles as usize;
-    let mut y = top;
-    while y < bottom {
-        let row = y * w;
-        let found = first_unfit(cells, row + left, row + right);
-        let Found::Nothing = found else {
-            return found;
-        };
-        y += 1;
-    }
-    Found::Nothing
-}
-
-// Whether every cell under a building in the map is walkable and buildable.
-pub fn footprint_buildable(width: u32, cells: &[u8], b: WallBuilding) -> bool
-    requires { ⌜ Covers width (now cells) b ⌝ }
-    ensures { λ r. ⌜ r ≡ not (nonEmpty (badUnder width (now (cells .entry)) b)) ⌝ }
-{
-    let found = first_bad_cell(width, cells, b);
-    let Found::Nothing = found else {
-        return false;
-    };
-    true
-}
-
-// The rectangle that no obstacle and no building has.
+// All zero.
 fn no_rect() -> PixelRect
     ensures { λ r. ⌜ r ≡ noRect ⌝ }
 {
@@ -148,7 +98,7 @@ fn no_rect() -> PixelRect
     }
 }
 
-// Both boxes of a building that validation has passed, so that i32 holds them.
+// Both boxes of a building that validation has passed: i32 holds them.
 fn boxes_of(b: WallBuilding) -> BuildingGeometry
     requires { ⌜ geometryOf b ≡ Fits (boxesOf b) ⌝ }
     ensures { λ r. ⌜ r ≡ boxesOf b ⌝ }
@@ -178,17 +128,23 @@ fn out_of_map(width: u32, height: u32, boxes: BuildingGeometry) -> bool
 }
 
 // Whether a building's footprint is in the map and has a bad cell.
-fn on_bad_terrain(width: u32, height: u32, cells: &[u8], b: WallBuilding, footprint: PixelRect) -> bool
+fn on_bad_terrain(
+    width: u32,
+    height: u32,
+    cells: &[u8],
+    b: WallBuilding,
+    footprint: PixelRect,
+) -> bool
     requires { ⌜ (length (now cells) ≡ width * height) × (footprint ≡ footprintBox b) ⌝ }
     ensures { λ r. ⌜ r ≡ inMap width height (footprintBox b) && nonEmpty (badUnder width (now (cells .entry)) b) ⌝ }
 {
     if boxes::rect_in_map(footprint, width, height) {
-        return !footprint_buildable(width, cells, b);
+        return !terrain::footprint_buildable(width, cells, b);
     }
     false
 }
 
-// The obstacle of four words.
+// Obstacle i, of four words.
 fn obstacle_at(words: &[i32], i: usize) -> PixelRect
     requires { ⌜ 4 * i + 3 < length (now words) ⌝ }
     ensures { λ r. ⌜ r ≡ getD (rects (now (words .entry))) i noRect ⌝ }
@@ -207,7 +163,13 @@ fn obstacle_at(words: &[i32], i: usize) -> PixelRect
 }
 
 // Writes OverlapsObstacle for each obstacle that meets the footprint, index rising.
-fn overlaps_obstacles(words: &[i32], footprint: PixelRect, building: usize, issues: &mut [u32], at: usize) -> usize
+fn overlaps_obstacles(
+    words: &[i32],
+    footprint: PixelRect,
+    building: usize,
+    issues: &mut [u32],
+    at: usize,
+) -> usize
     requires { ⌜ (building < 32) × (length (rects (now words)) ≤ 8192) ⌝ }
     requires { ⌜ at + length (obstacleWords building footprint (rects (now words))) ≤ length (now issues) ⌝ }
     ensures { λ r. ⌜ Put (now (issues .entry)) at (obstacleWords building footprint (rects (now (words .entry)))) (now (issues .exit)) r ⌝ }
@@ -218,14 +180,26 @@ fn overlaps_obstacles(words: &[i32], footprint: PixelRect, building: usize, issu
     while i < count {
         let obstacle = obstacle_at(words, i);
         let found = boxes::intersects(footprint, obstacle);
-        next = put_if(found, building, PlacementIssue::OverlapsObstacle { index: i }, issues, next);
+        next = put_if(
+            found,
+            building,
+            PlacementIssue::OverlapsObstacle { index: i },
+            issues,
+            next,
+        );
         i += 1;
     }
     next
 }
 
 // Writes OverlapsBuilding for each other building whose footprint meets this one, index rising.
-fn overlaps_buildings(plan: Plan, footprint: PixelRect, building: usize, issues: &mut [u32], at: usize) -> usize
+fn overlaps_buildings(
+    plan: Plan,
+    footprint: PixelRect,
+    building: usize,
+    issues: &mut [u32],
+    at: usize,
+) -> usize
     requires { ⌜ (building < 32) × Fitting plan ⌝ }
     requires { ⌜ at + length (buildingWords building footprint (built plan)) ≤ length (now issues) ⌝ }
     ensures { λ r. ⌜ Put (now (issues .entry)) at (buildingWords building footprint (built plan)) (now (issues .exit)) r ⌝ }
@@ -237,7 +211,13 @@ fn overlaps_buildings(plan: Plan, footprint: PixelRect, building: usize, issues:
         let other = plan.buildings[i];
         let boxes = boxes_of(other);
         let found = (i != building) & boxes::intersects(footprint, boxes.footprint);
-        next = put_if(found, building, PlacementIssue::OverlapsBuilding { index: i }, issues, next);
+        next = put_if(
+            found,
+            building,
+            PlacementIssue::OverlapsBuilding { index: i },
+            issues,
+            next,
+        );
         i += 1;
     }
     next
@@ -261,7 +241,13 @@ fn ground_issues(
     let out = out_of_map(width, height, boxes);
     let next = put_if(out, building, PlacementIssue::OutOfMap, issues, at);
     let bad = on_bad_terrain(width, height, cells, b, boxes.footprint);
-    put_if(bad, building, PlacementIssue::UnbuildableTerrain, issues, next)
+    put_if(
+        bad,
+        building,
+        PlacementIssue::UnbuildableTerrain,
+        issues,
+        next,
+    )
 }
 
 // Both boxes of one building and the number of its issues, whose words it writes behind the first `at`.
@@ -277,7 +263,7 @@ fn assess_building(
 ) -> WallPlacement
     requires { ⌜ Assessable (ground width height (now cells) (now words)) plan × (building < plan .count) ⌝ }
     requires { ⌜ at + length (issuesOf (ground width height (now cells) (now words)) (built plan) building (buildingAt plan building)) ≤ length (now issues) ⌝ }
-    ensures { λ r. ⌜ OneAssessed (ground width height (now (cells .entry)) (now (words .entry))) plan building (now (issues .entry)) at (now (issues .exit)) r ⌝ }
+    ensures { λ r. ⌜ OneAssessed (ground width height (now (cells .entry)) (now (words .entry))) (built plan) building (buildingAt plan building) (now (issues .entry)) at (now (issues .exit)) r ⌝ }
 {
     let b = plan.buildings[building];
     let boxes = boxes_of(b);
@@ -293,6 +279,7 @@ fn assess_building(
     }
 }
 
+// What an unused place of the answer holds.
 fn no_placement() -> WallPlacement
     ensures { λ r. ⌜ r ≡ noPlacement ⌝ }
 {

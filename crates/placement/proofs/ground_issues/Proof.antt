@@ -1,23 +1,19 @@
-use Rattle.placement.proofs.Puts.{put-length, then, words-length}
-use Rattle.placement.specs.Cells.{badUnder}
-use Rattle.model.specs.Placement.{Issue, OutOfMap, UnbuildableTerrain, noted, nonEmpty, issueWord}
-use Rattle.model.specs.Boxes.{inMap, footprintBox, collisionBox}
-use Rattle.model.specs.declared.BuildingGeometry.{BuildingGeometry}
-use lib.ListN.{length, length-map}
-use denote.Ref.{now}
-use native.Mathlib.Omega.{arith}
-use Prim.Native.Nat.{ℕ, _+_, _≤_}
-use mathlib.Core.List.{List}
-use mathlib.Core.Bool.{Bool, not, _&&_}
+-- `placement::ground_issues` meets its contract: one part of the words behind the other. Assumes nothing.
 use mathlib.Core.Path.{_≡_, ap, _∙_}
+use mathlib.Core.Bool.{not, _&&_}
+use mathlib.Core.List.{List}
+use Prim.Native.Nat.{_+_, _≤_}
+use native.Mathlib.Omega.{arith}
 use borrow.Author.Needs.{needs}
+use denote.Ref.{now}
+use lib.ListN.{length, length-map}
+use Rattle.model.specs.declared.BuildingGeometry.{BuildingGeometry}
+use Rattle.model.specs.Boxes.{inMap, footprintBox, collisionBox}
+use Rattle.model.specs.Placement.{Issue, OutOfMap, UnbuildableTerrain, noted, nonEmpty, issueWord}
+use Rattle.terrain.specs.Cells.{badUnder}
+use Rattle.placement.proofs.Puts.{put-length, then, words-length}
 use Rattle.placement.proofs.ground_issues.Statement.{statement}
 use Rattle.placement.proofs.ground_issues.Tie as tie
-use Rattle.placement.proofs.ground_issues.Reads as reads
-use Rattle.placement.proofs.ground_issues.Lts as lts
-use Rattle.placement.proofs.on_bad_terrain.Reads as on-bad-terrain-reads
-use Rattle.placement.proofs.out_of_map.Reads as out-of-map-reads
-use Rattle.placement.proofs.put_if.Reads as put-if-reads
 
 -- the two issues, each where its test holds
 abbrev out : tie.Start → List Issue
@@ -35,23 +31,19 @@ out-is c =
     let s = c .before .before .before in
     c .out-of-map .ensures ∙ ap (λ (g : BuildingGeometry). not (inMap (s .args .width) (s .args .height) (g .footprint) && inMap (s .args .width) (s .args .height) (g .collision))) (s .pre .0 .1 .1)
 
--- src/lib.rt:261:9
 out-of-map-requires : tie.Need-out-of-map-requires
 out-of-map-requires c κs = search needs
 
--- src/lib.rt:262:9
 put-if-requires : tie.Need-put-if-requires
 put-if-requires c κs =
     let s = c .before .before .before .before in
     (s .pre .0 .0, (omega arith, rw (out-is (c .before)) (omega (arith, room s))))
 
--- src/lib.rt:263:9
 on-bad-terrain-requires : tie.Need-on-bad-terrain-requires
 on-bad-terrain-requires c κs =
     let s = c .before .before .before .before .before .before .before in
     (s .pre .0 .1 .0, ap (λ (g : BuildingGeometry). g .footprint) (s .pre .0 .1 .1))
 
--- src/lib.rt:264:5
 put-if-requires-2 : tie.Need-put-if-requires-2
 put-if-requires-2 c κs =
     let p = c .before .before .before .before in
@@ -59,11 +51,9 @@ put-if-requires-2 c κs =
     let e = p .put-if .ensures in
     (s .pre .0 .0, (omega arith, rw (c .before .on-bad-terrain .ensures) (omega (arith, room s, (rw (out-is (p .before .before)) at e) .count, put-length e, length-map (out s) (issueWord (s .args .building))))))
 
--- src/lib.rt:247:1
 same-length : tie.Need-same-length
 same-length c = search needs
 
--- src/lib.rt:247:1
 returns : tie.Need-returns
 returns c =
     let p = c .before .before in

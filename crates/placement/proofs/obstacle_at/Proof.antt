@@ -1,65 +1,51 @@
-use Prim.Native.Nat.{_+_, _*_}
-use Rattle.placement.proofs.Obstacles.{word, rects-at}
-use Rattle.model.specs.Check.{noRect}
+-- `placement::obstacle_at` meets its contract: four words read back are a rectangle. Assumes nothing.
+use mathlib.Core.Path.{sym, _∙_}
 use mathlib.Core.List.{List}
+use Prim.Native.Nat.{_+_, _*_}
+use borrow.Author.Needs.{needs}
 use denote.Ref.{now}
 use lib.IntN.{ℤ}
-use mathlib.Core.Path.{sym, _∙_}
-use borrow.Author.Needs.{needs}
+use Rattle.model.specs.Check.{noRect}
+use Rattle.placement.proofs.Obstacles.{word, rects-at}
 use Rattle.placement.proofs.obstacle_at.Statement.{statement}
 use Rattle.placement.proofs.obstacle_at.Tie as tie
-use Rattle.placement.proofs.obstacle_at.Reads as reads
-use Rattle.placement.proofs.obstacle_at.Lts as lts
 
--- src/lib.rt:193:14
 mul-at : tie.Need-mul-at
 mul-at c = search needs
 
--- src/lib.rt:194:16
 mul-left : tie.Need-mul-left
 mul-left c = search needs
 
--- src/lib.rt:194:16
 shared-slice-copy-out-left : tie.Need-shared-slice-copy-out-left
 shared-slice-copy-out-left c = search needs
 
--- src/lib.rt:195:21
 add-top : tie.Need-add-top
 add-top c = search needs
 
--- src/lib.rt:195:15
 mul-top : tie.Need-mul-top
 mul-top c = search needs
 
--- src/lib.rt:195:15
 shared-slice-copy-out-top : tie.Need-shared-slice-copy-out-top
 shared-slice-copy-out-top c = search needs
 
--- src/lib.rt:196:23
 add-right : tie.Need-add-right
 add-right c = search needs
 
--- src/lib.rt:196:17
 mul-right : tie.Need-mul-right
 mul-right c = search needs
 
--- src/lib.rt:196:17
 shared-slice-copy-out-right : tie.Need-shared-slice-copy-out-right
 shared-slice-copy-out-right c = search needs
 
--- src/lib.rt:197:24
 add-bottom : tie.Need-add-bottom
 add-bottom c = search needs
 
--- src/lib.rt:197:18
 mul-bottom : tie.Need-mul-bottom
 mul-bottom c = search needs
 
--- src/lib.rt:197:18
 shared-slice-copy-out-bottom : tie.Need-shared-slice-copy-out-bottom
 shared-slice-copy-out-bottom c = search needs
 
--- src/lib.rt:189:1
 returns : tie.Need-returns
 returns c =
     let s = c .before .before .before .before in

@@ -1,19 +1,14 @@
+-- `placement::out_of_map` meets its contract. Assumes nothing.
 use borrow.Author.Needs.{needs}
 use Rattle.placement.proofs.out_of_map.Statement.{statement}
 use Rattle.placement.proofs.out_of_map.Tie as tie
-use Rattle.placement.proofs.out_of_map.Reads as reads
-use Rattle.placement.proofs.out_of_map.Lts as lts
-use Rattle.boxes.proofs.rect_in_map.Reads as rect-in-map-reads
 
--- src/lib.rt:172:9
 rect-in-map-requires : tie.Need-rect-in-map-requires
 rect-in-map-requires c κs = search needs
 
--- src/lib.rt:173:9
 rect-in-map-requires-2 : tie.Need-rect-in-map-requires-2
 rect-in-map-requires-2 c κs = search needs
 
--- src/lib.rt:167:1
 returns : tie.Need-returns
 returns c = rw (c .before .rect-in-map .ensures, c .rect-in-map2 .ensures)
 

@@ -1,27 +1,23 @@
-use Rattle.placement.proofs.Written.{Written, at-first, room-here, after-turn, at-last}
-use Rattle.placement.proofs.Puts.{put-length}
-use Rattle.placement.specs.Assessed.{noBuilding}
-use Rattle.placement.proofs.Plans.{built-length, built-at, fits-at}
-use Rattle.model.specs.Placement.{OverlapsBuilding}
-use Rattle.model.specs.Ground.{built}
-use Rattle.model.specs.Boxes.{meets, footprintBox}
+-- `placement::overlaps_buildings` meets its contract. The invariant: the words of the buildings passed are written. Assumes nothing.
+use mathlib.Core.Path.{_≡_, sym, ap, _∙_}
+use mathlib.Core.Bool.{not, _&&_}
+use Prim.Native.Nat.{_-_, _≤_}
+use native.Mathlib.Omega.{arith}
+use borrow.Author.Needs.{needs}
+use denote.Ref.{now}
+use lib.Dec.{eqb}
+use lib.ListN.{length, getD, length-map}
 use Rattle.model.specs.declared.WallBuilding.{WallBuilding}
 use Rattle.model.specs.declared.BuildingGeometry.{BuildingGeometry}
-use lib.ListN.{length, getD, length-map}
-use lib.Dec.{eqb}
-use denote.Ref.{now}
-use borrow.Author.Needs.{needs}
-use native.Mathlib.Omega.{arith}
-use Prim.Native.Nat.{_-_, _≤_}
-use mathlib.Core.Bool.{not, _&&_}
-use mathlib.Core.Path.{_≡_, sym, ap, _∙_}
+use Rattle.model.specs.Boxes.{meets, footprintBox}
+use Rattle.model.specs.Ground.{built}
+use Rattle.model.specs.Placement.{OverlapsBuilding}
+use Rattle.placement.specs.Assessed.{noBuilding}
+use Rattle.placement.proofs.Written.{Written, at-first, room-here, after-turn, at-last}
+use Rattle.placement.proofs.Puts.{put-length}
+use Rattle.placement.proofs.Plans.{built-length, built-at, fits-at}
 use Rattle.placement.proofs.overlaps_buildings.Statement.{statement}
 use Rattle.placement.proofs.overlaps_buildings.Tie as tie
-use Rattle.placement.proofs.overlaps_buildings.Reads as reads
-use Rattle.placement.proofs.overlaps_buildings.Lts as lts
-use Rattle.boxes.proofs.intersects.Reads as intersects-reads
-use Rattle.placement.proofs.boxes_of.Reads as boxes-of-reads
-use Rattle.placement.proofs.put_if.Reads as put-if-reads
 
 abbrev Inv-loop : tie.InvT-loop
 Inv-loop footprint building issues₀ at plan count next₀ i₀ issues next i =
@@ -44,48 +40,43 @@ found-is c =
     ∙ (ap (λ (g : BuildingGeometry). meets f (g .footprint)) (c .before .boxes-of .ensures)
     ∙ sym (ap (λ (b : WallBuilding). meets f (footprintBox b)) (built-at (s .args .t1) (long s) (s .pre .0 .1) (l .loop .i) (omega arith))))
 
--- src/lib.rt:234:5
 loop-holds : tie.Need-loop-holds Inv-loop μ-loop
 loop-holds c =
     let s = c .before in
     (omega arith, at-first (s .args .building) OverlapsBuilding (λ k b. not (eqb k (s .args .building)) && meets (s .args .footprint) (footprintBox b)) (built (s .args .t1)) (now (s .args .issues)) (s .args .at) (s .pre .1))
 
--- src/lib.rt:235:21
 mul-other : tie.Need-mul-other Inv-loop μ-loop
 mul-other c = omega (arith, c .before .before .before .pre .0 .1 .count)
 
--- src/lib.rt:235:21
 element-copy-out-other : tie.Need-element-copy-out-other Inv-loop μ-loop
 element-copy-out-other c = omega (arith, c .before .before .before .pre .0 .1 .count)
 
--- src/lib.rt:236:13
 boxes-of-requires : tie.Need-boxes-of-requires Inv-loop μ-loop
 boxes-of-requires c κs =
     let l = c .before .before in
     let s = l .before .before in
     fits-at (s .args .t1) (long s) (s .pre .0 .1) (l .loop .i) (omega arith)
 
--- src/lib.rt:237:39
 intersects-requires : tie.Need-intersects-requires Inv-loop μ-loop
 intersects-requires c κs = search needs
 
--- src/lib.rt:238:9
 put-if-requires : tie.Need-put-if-requires Inv-loop μ-loop
 put-if-requires c κs =
     let l : tie.At-loop Inv-loop μ-loop = c .before .before .before .before .before in
-    let s = l .before .before in
-    (s .pre .0 .0, (omega (arith, s .pre .0 .1 .count),
-    rw (found-is (c .before)) (room-here (s .args .building) OverlapsBuilding (λ k b. not (eqb k (s .args .building)) && meets (s .args .footprint) (footprintBox b)) (built (s .args .t1)) (now (s .args .issues)) (s .args .at) noBuilding (omega (arith, built-length (s .args .t1) (long s) (s .pre .0 .1))) (l .loop .inv .1) (s .pre .1))))
+    let s = l .before .before in (
+      s .pre .0 .0,
+      (
+        omega (arith, s .pre .0 .1 .count),
+        rw (found-is (c .before)) (room-here (s .args .building) OverlapsBuilding (λ k b. not (eqb k (s .args .building)) && meets (s .args .footprint) (footprintBox b)) (built (s .args .t1)) (now (s .args .issues)) (s .args .at) noBuilding (omega (arith, built-length (s .args .t1) (long s) (s .pre .0 .1))) (l .loop .inv .1) (s .pre .1)),
+      ),
+    )
 
--- src/lib.rt:239:9
 add-i : tie.Need-add-i Inv-loop μ-loop
 add-i c = omega arith
 
--- src/lib.rt:234:5
 loop-less : tie.Need-loop-less Inv-loop μ-loop
 loop-less c = omega arith
 
--- src/lib.rt:234:5
 loop-again : tie.Need-loop-again Inv-loop μ-loop
 loop-again c =
     let p = c .before .before in
@@ -93,11 +84,9 @@ loop-again c =
     let s = l .before .before in
     (omega arith, after-turn (s .args .building) OverlapsBuilding (λ k b. not (eqb k (s .args .building)) && meets (s .args .footprint) (footprintBox b)) (built (s .args .t1)) (now (s .args .issues)) (s .args .at) noBuilding (omega (arith, built-length (s .args .t1) (long s) (s .pre .0 .1))) (l .loop .inv .1) (rw (found-is (p .before .before)) at (p .put-if .ensures)))
 
--- src/lib.rt:226:1
 same-length : tie.Need-same-length Inv-loop μ-loop
 same-length c = put-length (c .before .loop .inv .1)
 
--- src/lib.rt:226:1
 returns : tie.Need-returns Inv-loop μ-loop
 returns c =
     let l = c .before in

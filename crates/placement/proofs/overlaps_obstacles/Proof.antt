@@ -1,23 +1,19 @@
-use Rattle.placement.proofs.Puts.{put-length}
-use Rattle.model.specs.Check.{noRect}
-use denote.Ref.{now}
+-- `placement::overlaps_obstacles` meets its contract. The invariant: the words of the obstacles passed are written. Assumes nothing.
 use mathlib.Core.Path.{_≡_, ap, _∙_}
-use Rattle.placement.proofs.Written.{Written, at-first, room-here, after-turn, at-last}
-use Rattle.model.proofs.Lists.{rects-length}
-use Rattle.model.specs.Placement.{OverlapsObstacle}
-use Rattle.model.specs.Ground.{rects}
-use Rattle.model.specs.Boxes.{meets}
-use lib.ListN.{length, getD}
-use borrow.Author.Needs.{needs}
+use Prim.Native.Nat.{_-_, _≤_, _<_}
 use native.Mathlib.Omega.{arith}
-use Prim.Native.Nat.{ℕ, _+_, _*_, _-_, _≤_, _<_}
+use borrow.Author.Needs.{needs}
+use denote.Ref.{now}
+use lib.ListN.{length, getD}
+use Rattle.model.specs.Boxes.{meets}
+use Rattle.model.specs.Ground.{rects}
+use Rattle.model.specs.Placement.{OverlapsObstacle}
+use Rattle.model.specs.Check.{noRect}
+use Rattle.model.proofs.Lists.{rects-length}
+use Rattle.placement.proofs.Puts.{put-length}
+use Rattle.placement.proofs.Written.{Written, at-first, room-here, after-turn, at-last}
 use Rattle.placement.proofs.overlaps_obstacles.Statement.{statement}
 use Rattle.placement.proofs.overlaps_obstacles.Tie as tie
-use Rattle.placement.proofs.overlaps_obstacles.Reads as reads
-use Rattle.placement.proofs.overlaps_obstacles.Lts as lts
-use Rattle.boxes.proofs.intersects.Reads as intersects-reads
-use Rattle.placement.proofs.obstacle_at.Reads as obstacle-at-reads
-use Rattle.placement.proofs.put_if.Reads as put-if-reads
 
 abbrev Inv-loop : tie.InvT-loop
 Inv-loop words footprint building issues₀ at count next₀ i₀ issues next i =
@@ -26,13 +22,11 @@ Inv-loop words footprint building issues₀ at count next₀ i₀ issues next i 
 abbrev μ-loop : tie.MeasureT-loop
 μ-loop words footprint building issues₀ at count next₀ i₀ issues next i = count - i
 
--- src/lib.rt:216:5
 loop-holds : tie.Need-loop-holds Inv-loop μ-loop
 loop-holds c =
     let s = c .before in
     (omega arith, at-first (s .args .building) OverlapsObstacle (λ k o. meets (s .args .footprint) o) (rects (now (s .args .words))) (now (s .args .issues)) (s .args .at) (s .pre .1))
 
--- src/lib.rt:217:13
 obstacle-at-requires : tie.Need-obstacle-at-requires Inv-loop μ-loop
 obstacle-at-requires c κs = omega arith
 
@@ -44,28 +38,27 @@ passes c = omega (arith, rects-length (now (c .before .before .before .args .wor
 found-is : (c : tie.After-intersects Inv-loop μ-loop) → c .intersects .result ≡ meets (c .before .before .before .before .before .args .footprint) (getD (rects (now (c .before .before .before .before .before .args .words))) (c .before .before .before .loop .i) noRect)
 found-is c = c .intersects .ensures ∙ ap (meets (c .before .before .before .before .before .args .footprint)) (c .before .obstacle-at .ensures)
 
--- src/lib.rt:218:13
 intersects-requires : tie.Need-intersects-requires Inv-loop μ-loop
 intersects-requires c κs = search needs
 
--- src/lib.rt:219:9
 put-if-requires : tie.Need-put-if-requires Inv-loop μ-loop
 put-if-requires c κs =
     let l : tie.At-loop Inv-loop μ-loop = c .before .before .before .before in
     let s = l .before .before in
-    let h = passes (c .before .before .before) in
-    (s .pre .0 .0, (omega (arith, s .pre .0 .1),
-    rw (found-is (c .before)) (room-here (s .args .building) OverlapsObstacle (λ k o. meets (s .args .footprint) o) (rects (now (s .args .words))) (now (s .args .issues)) (s .args .at) noRect h (l .loop .inv .1) (s .pre .1))))
+    let h = passes (c .before .before .before) in (
+      s .pre .0 .0,
+      (
+        omega (arith, s .pre .0 .1),
+        rw (found-is (c .before)) (room-here (s .args .building) OverlapsObstacle (λ k o. meets (s .args .footprint) o) (rects (now (s .args .words))) (now (s .args .issues)) (s .args .at) noRect h (l .loop .inv .1) (s .pre .1)),
+      ),
+    )
 
--- src/lib.rt:220:9
 add-i : tie.Need-add-i Inv-loop μ-loop
 add-i c = omega arith
 
--- src/lib.rt:216:5
 loop-less : tie.Need-loop-less Inv-loop μ-loop
 loop-less c = omega arith
 
--- src/lib.rt:216:5
 loop-again : tie.Need-loop-again Inv-loop μ-loop
 loop-again c =
     let p = c .before .before in
@@ -74,11 +67,9 @@ loop-again c =
     let h = passes (p .before .before .before .before) in
     (omega arith, after-turn (s .args .building) OverlapsObstacle (λ k o. meets (s .args .footprint) o) (rects (now (s .args .words))) (now (s .args .issues)) (s .args .at) noRect h (l .loop .inv .1) (rw (found-is (p .before .before)) at (p .put-if .ensures)))
 
--- src/lib.rt:208:1
 same-length : tie.Need-same-length Inv-loop μ-loop
 same-length c = put-length (c .before .loop .inv .1)
 
--- src/lib.rt:208:1
 returns : tie.Need-returns Inv-loop μ-loop
 returns c =
     let l = c .before in

@@ -1,17 +1,15 @@
-use Rattle.placement.specs.Cells.{FirstUnfit, UnfitAt, leftCell, rightCell, topCell, bottomCell, head}
-use Rattle.numbers.proofs.Places.{rows-fit}
-use lib.ListN.{length}
-use denote.Ref.{now}
-use mathlib.Core.Path.{_≡_, sym, ap, subst, _∙_}
-use Rattle.placement.proofs.Cells.{Clear, rows-above, row-clear, rows-below, under-here, none-bad, first-bad}
+-- `terrain::first_bad_cell` meets its contract. The invariant: of the cells above the present row, none under the building is unfit. Assumes nothing.
+use mathlib.Core.Path.{sym, ap, subst, _∙_}
 use Prim.Native.Nat.{ℕ, _+_, _*_, _-_, _≤_}
 use native.Mathlib.Omega.{arith}
 use borrow.Author.Needs.{needs}
-use Rattle.placement.proofs.first_bad_cell.Statement.{statement}
-use Rattle.placement.proofs.first_bad_cell.Tie as tie
-use Rattle.placement.proofs.first_bad_cell.Reads as reads
-use Rattle.placement.proofs.first_bad_cell.Lts as lts
-use Rattle.placement.proofs.first_unfit.Reads as first-unfit-reads
+use denote.Ref.{now}
+use lib.ListN.{length}
+use Rattle.numbers.proofs.Places.{rows-fit}
+use Rattle.terrain.specs.Cells.{FirstUnfit, UnfitAt, leftCell, rightCell, topCell, bottomCell, head}
+use Rattle.terrain.proofs.Cells.{Clear, rows-above, row-clear, rows-below, under-here, none-bad, first-bad}
+use Rattle.terrain.proofs.first_bad_cell.Statement.{statement}
+use Rattle.terrain.proofs.first_bad_cell.Tie as tie
 
 abbrev Inv-loop : tie.InvT-loop
 Inv-loop width cells w left right top bottom y₀ y = (top ≤ y) × Clear w left right top bottom cells (y * w)
@@ -19,47 +17,36 @@ Inv-loop width cells w left right top bottom y₀ y = (top ≤ y) × Clear w lef
 abbrev μ-loop : tie.MeasureT-loop
 μ-loop width cells w left right top bottom y₀ y = bottom - y
 
--- src/lib.rt:100:20
 cast-left : tie.Need-cast-left Inv-loop μ-loop
 cast-left c = search needs
 
--- src/lib.rt:100:16
 mul-left : tie.Need-mul-left Inv-loop μ-loop
 mul-left c = search needs
 
--- src/lib.rt:101:28
 cast-right : tie.Need-cast-right Inv-loop μ-loop
 cast-right c = search needs
 
--- src/lib.rt:101:24
 mul-right : tie.Need-mul-right Inv-loop μ-loop
 mul-right c = search needs
 
--- src/lib.rt:101:17
 add-right : tie.Need-add-right Inv-loop μ-loop
 add-right c = search needs
 
--- src/lib.rt:102:19
 cast-top : tie.Need-cast-top Inv-loop μ-loop
 cast-top c = search needs
 
--- src/lib.rt:102:15
 mul-top : tie.Need-mul-top Inv-loop μ-loop
 mul-top c = search needs
 
--- src/lib.rt:103:28
 cast-bottom : tie.Need-cast-bottom Inv-loop μ-loop
 cast-bottom c = search needs
 
--- src/lib.rt:103:24
 mul-bottom : tie.Need-mul-bottom Inv-loop μ-loop
 mul-bottom c = search needs
 
--- src/lib.rt:103:18
 add-bottom : tie.Need-add-bottom Inv-loop μ-loop
 add-bottom c = search needs
 
--- src/lib.rt:105:5
 loop-holds : tie.Need-loop-holds Inv-loop μ-loop
 loop-holds c =
     let a = c .before .before .before .before .before .args in
@@ -71,30 +58,24 @@ row-within c =
     let s = c .before .before .before .before .before .before .before in
     omega (arith, rows-fit (s .args .width) (c .before .loop .y) (bottomCell (s .args .b)) (length (now (s .args .cells))) (omega arith) (s .pre .down))
 
--- src/lib.rt:106:19
 mul-row : tie.Need-mul-row Inv-loop μ-loop
 mul-row c = omega (arith, row-within c)
 
--- src/lib.rt:107:40
 add-first-unfit : tie.Need-add-first-unfit Inv-loop μ-loop
 add-first-unfit c = omega (arith, row-within c)
 
--- src/lib.rt:107:52
 add-first-unfit-2 : tie.Need-add-first-unfit-2 Inv-loop μ-loop
 add-first-unfit-2 c = omega (arith, row-within c)
 
--- src/lib.rt:107:13
 first-unfit-requires : tie.Need-first-unfit-requires Inv-loop μ-loop
 first-unfit-requires c κs = omega (arith, row-within c)
 
 enum-told : tie.Need-enum-told Inv-loop μ-loop
 enum-told c = search needs
 
--- src/lib.rt:109:13
 enum-told-2 : tie.Need-enum-told-2 Inv-loop μ-loop
 enum-told-2 c = search needs
 
--- src/lib.rt:109:13
 returns : tie.Need-returns Inv-loop μ-loop
 returns c =
     let f = c .before .before in
@@ -113,15 +94,12 @@ returns c =
     (u .here)
     (row-clear (a .width) (leftCell (a .b)) (rightCell (a .b)) (topCell (a .b)) (bottomCell (a .b)) n y i (omega (arith, u, s)) (l .loop .inv .1) (λ j h k m. u .before j h m)))
 
--- src/lib.rt:111:9
 add-y : tie.Need-add-y Inv-loop μ-loop
 add-y c = omega arith
 
--- src/lib.rt:105:5
 loop-less : tie.Need-loop-less Inv-loop μ-loop
 loop-less c = omega arith
 
--- src/lib.rt:105:5
 loop-again : tie.Need-loop-again Inv-loop μ-loop
 loop-again c =
     let f = c .before .before in
@@ -131,7 +109,6 @@ loop-again c =
     let u = subst (FirstUnfit (now (a .cells)) (l .loop .y * a .width + leftCell (a .b)) (l .loop .y * a .width + rightCell (a .b))) e (f .first-unfit .ensures) in
     (omega arith, row-clear (a .width) (leftCell (a .b)) (rightCell (a .b)) (topCell (a .b)) (bottomCell (a .b)) (now (a .cells)) (l .loop .y) ((l .loop .y + 1) * a .width) (omega arith) (l .loop .inv .1) (λ j h k m. u j h k))
 
--- src/lib.rt:95:1
 returns-2 : tie.Need-returns-2 Inv-loop μ-loop
 returns-2 c =
     let l = c .before in

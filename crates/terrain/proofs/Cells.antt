@@ -2,24 +2,22 @@
 use mathlib.Core.Path.{_≡_, refl, sym, ap, subst, _∙_}
 use mathlib.Core.Bool.{Bool, true, false, not, _&&_}
 use mathlib.Core.List.{List, [], _∷_}
-use Prim.Native.Nat.{ℕ, zero, suc, _+_, _-_, _*_, _/_, _%_, _≤_, _<_}
-use native.Mathlib.Decide.{decLt, decLe}
+use Prim.Native.Nat.{ℕ, zero, suc, _+_, _*_, _/_, _%_, _≤_, _<_}
+use native.Mathlib.Decide.{decLt}
 use native.Mathlib.Nat.{zero-add, mul-comm, mul-le-mul-right, div-add-mod', div-eq-of-lt-le}
 use native.Mathlib.Omega.{arith}
-use borrow.Author.Tests.{lt-ltb, le-ltb}
+use borrow.Author.Tests.{lt-ltb}
 use lib.Dec.{T, ltb, leb, ltb→lt, leb→le}
 use lib.ListN.{length, getD}
 use Rattle.numbers.proofs.Tests.{left-of, right-of}
 use Rattle.numbers.proofs.Places.{row-below}
-use Rattle.model.specs.declared.PixelRect.{PixelRect}
 use Rattle.model.specs.declared.WallBuilding.{WallBuilding}
-use Rattle.model.specs.Lists.{places, placesFrom, keepIf}
+use Rattle.model.specs.Lists.{placesFrom}
 use Rattle.model.specs.Boxes.{meets, inMap, cellBox, footprintBox}
-use Rattle.model.specs.Ground.{Ground, walkable, buildable}
+use Rattle.model.specs.Ground.{walkable, buildable}
 use Rattle.model.specs.Placement.{badCells, nonEmpty}
-use Rattle.placement.specs.declared.Found.{Found}
-use Rattle.placement.specs.declared.Found.the-variants.{At, Nothing}
-use Rattle.placement.specs.Cells.{Fit, unfit, head, badUnder, leftCell, rightCell, topCell, bottomCell, Covers}
+use Rattle.terrain.specs.declared.Found.the-variants.{At, Nothing}
+use Rattle.terrain.specs.Cells.{Fit, unfit, head, badUnder, leftCell, rightCell, topCell, bottomCell, Covers}
 
 -- before the first cell there is none
 pub none-yet : (cells : List ℕ) (from : ℕ) → Fit cells from from
@@ -86,7 +84,7 @@ module _ (w : ℕ) (b : WallBuilding) (j : ℕ) where
   unfolding meets
   meets-under t =
       let f = four (32 * b .tile .x) (8 * (j % w) + 8) (8 * (j % w)) (32 * b .tile .x + 32 * b .footprint .«width_tiles»)
-          (32 * b .tile .y) (8 * (j / w) + 8) (8 * (j / w)) (32 * b .tile .y + 32 * b .footprint .«height_tiles») t in
+      (32 * b .tile .y) (8 * (j / w) + 8) (8 * (j / w)) (32 * b .tile .y + 32 * b .footprint .«height_tiles») t in
       record { from-left = omega arith; to-right = omega arith; from-top = omega arith; to-bottom = omega arith }
 
   -- and there it does

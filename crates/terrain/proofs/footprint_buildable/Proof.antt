@@ -1,33 +1,27 @@
-use Rattle.placement.proofs.Cells.{head-nothing, head-at}
-use Rattle.placement.specs.Cells.{badUnder}
-use denote.Ref.{now}
-use mathlib.Core.Bool.{not}
+-- `terrain::footprint_buildable` meets its contract: there is a bad cell where there is a first one. Assumes nothing.
 use mathlib.Core.Path.{sym, ap, _∙_}
+use mathlib.Core.Bool.{not}
 use borrow.Author.Needs.{needs}
-use Rattle.placement.proofs.footprint_buildable.Statement.{statement}
-use Rattle.placement.proofs.footprint_buildable.Tie as tie
-use Rattle.placement.proofs.footprint_buildable.Reads as reads
-use Rattle.placement.proofs.footprint_buildable.Lts as lts
-use Rattle.placement.proofs.first_bad_cell.Reads as first-bad-cell-reads
+use denote.Ref.{now}
+use Rattle.terrain.specs.Cells.{badUnder}
+use Rattle.terrain.proofs.Cells.{head-nothing, head-at}
+use Rattle.terrain.proofs.footprint_buildable.Statement.{statement}
+use Rattle.terrain.proofs.footprint_buildable.Tie as tie
 
--- src/lib.rt:121:9
 first-bad-cell-requires : tie.Need-first-bad-cell-requires
 first-bad-cell-requires c κs = search needs
 
 enum-told : tie.Need-enum-told
 enum-told c = search needs
 
--- src/lib.rt:123:9
 enum-told-2 : tie.Need-enum-told-2
 enum-told-2 c = search needs
 
--- src/lib.rt:123:9
 returns : tie.Need-returns
 returns c =
     let a = c .before .before .before .before .args in
     sym (ap not (head-at (badUnder (a .width) (now (a .cells)) (a .b)) (c .enum-told2 .given .0 .0) (sym (c .before .before .first-bad-cell .ensures) ∙ c .enum-told2 .given .1)))
 
--- src/lib.rt:117:1
 returns-2 : tie.Need-returns-2
 returns-2 c =
     let a = c .before .before .before .before .args in
