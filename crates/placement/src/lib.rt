@@ -8,7 +8,7 @@ ghost use Rattle.model.specs.declared.Geometry.the-variants.{Fits};
 ghost use Rattle.model.specs.Boxes.{inMap, footprintBox};
 ghost use Rattle.model.specs.Ground.{rects, built};
 ghost use Rattle.model.specs.Placement.{index, kind, issueWord, noted, nonEmpty, issuesOf};
-ghost use Rattle.model.specs.Refusal.{geometryOf};
+ghost use Rattle.model.specs.Refusal.{geometryOf, obstacleCap, buildingCap};
 ghost use Rattle.model.specs.Areas.{issueRoom};
 ghost use Rattle.model.specs.Check.{noRect, noPlacement};
 ghost use Rattle.terrain.specs.Cells.{badUnder};
@@ -21,7 +21,7 @@ use model::Plan;
 use model::WallBuilding;
 use model::WallPlacement;
 
-// An issue's word: building (5 bits), kind (2), zero (12), index (13).
+// An issue's word holds building (5 bits), kind (2), zero (12), index (13): one building is 2^27, one kind 2^25.
 const BUILDING: u32 = 134217728;
 
 const KIND: u32 = 33554432;
@@ -60,7 +60,7 @@ fn index_of(issue: PlacementIssue) -> usize
 
 // The issue of a building as a word.
 fn issue_word(building: usize, issue: PlacementIssue) -> u32
-    requires { ⌜ (building < 32) × (index (issueOf issue) < 8192) ⌝ }
+    requires { ⌜ (building < buildingCap) × (index (issueOf issue) < obstacleCap) ⌝ }
     ensures { λ r. ⌜ r ≡ issueWord building (issueOf issue) ⌝ }
 {
     let kind = kind_of(issue);
@@ -76,7 +76,7 @@ fn put_if(
     issues: &mut [u32],
     at: usize,
 ) -> usize
-    requires { ⌜ (building < 32) × ((index (issueOf issue) < 8192) × (at + length (noted found (issueOf issue)) ≤ length (now issues))) ⌝ }
+    requires { ⌜ (building < buildingCap) × ((index (issueOf issue) < obstacleCap) × (at + length (noted found (issueOf issue)) ≤ length (now issues))) ⌝ }
     ensures { λ r. ⌜ Put (now (issues .entry)) at (map (issueWord building) (noted found (issueOf issue))) (now (issues .exit)) r ⌝ }
 {
     if found {
@@ -170,7 +170,7 @@ fn overlaps_obstacles(
     issues: &mut [u32],
     at: usize,
 ) -> usize
-    requires { ⌜ (building < 32) × (length (rects (now words)) ≤ 8192) ⌝ }
+    requires { ⌜ (building < buildingCap) × (length (rects (now words)) ≤ obstacleCap) ⌝ }
     requires { ⌜ at + length (obstacleWords building footprint (rects (now words))) ≤ length (now issues) ⌝ }
     ensures { λ r. ⌜ Put (now (issues .entry)) at (obstacleWords building footprint (rects (now (words .entry)))) (now (issues .exit)) r ⌝ }
 {
@@ -200,7 +200,7 @@ fn overlaps_buildings(
     issues: &mut [u32],
     at: usize,
 ) -> usize
-    requires { ⌜ (building < 32) × Fitting plan ⌝ }
+    requires { ⌜ (building < buildingCap) × Fitting plan ⌝ }
     requires { ⌜ at + length (buildingWords building footprint (built plan)) ≤ length (now issues) ⌝ }
     ensures { λ r. ⌜ Put (now (issues .entry)) at (buildingWords building footprint (built plan)) (now (issues .exit)) r ⌝ }
 {
@@ -234,7 +234,7 @@ fn ground_issues(
     issues: &mut [u32],
     at: usize,
 ) -> usize
-    requires { ⌜ (building < 32) × ((length (now cells) ≡ width * height) × (boxes ≡ boxesOf b)) ⌝ }
+    requires { ⌜ (building < buildingCap) × ((length (now cells) ≡ width * height) × (boxes ≡ boxesOf b)) ⌝ }
     requires { ⌜ at + length (groundWords width height (now cells) building b) ≤ length (now issues) ⌝ }
     ensures { λ r. ⌜ Put (now (issues .entry)) at (groundWords width height (now (cells .entry)) building b) (now (issues .exit)) r ⌝ }
 {
