@@ -1,8 +1,11 @@
 // Rectangle tests, and a building's two boxes.
 ghost use mathlib.Core.Path.{_≡_};
-ghost use Prim.Native.Nat.{_+_, _≤_, _<_};
-ghost use lib.IntN.{pos, _-ℤ_};
-ghost use Rattle.model.specs.Boxes.{meets, inMap};
+ghost use Prim.Native.Nat.{_+_, _*_, _≤_, _<_};
+ghost use lib.IntN.{pos, natAbs, _-ℤ_};
+ghost use lib.ListN.{length, getD};
+ghost use Rattle.model.specs.Boxes.{meets, inMap, widthOf, heightOf};
+ghost use Rattle.model.specs.Check.{noRect};
+ghost use Rattle.model.specs.Ground.{rects};
 ghost use Rattle.model.specs.Refusal.{geometryOf};
 ghost use Rattle.boxes.specs.Axes.{axisOf};
 use model::BuildingGeometry;
@@ -36,6 +39,46 @@ pub fn rect_in_map(rect: PixelRect, width: u32, height: u32) -> bool
         & (0 <= rect.top)
         & (rect.right as i64 <= (8 * width as u64) as i64)
         & (rect.bottom as i64 <= (8 * height as u64) as i64)
+}
+
+// How far apart the two sides are.
+fn extent(low: i32, high: i32) -> usize
+    ensures { λ r. ⌜ r ≡ natAbs (high -ℤ low) ⌝ }
+{
+    let from = numbers::biased(low);
+    let to = numbers::biased(high);
+    if to < from {
+        return (from - to) as usize;
+    }
+    (to - from) as usize
+}
+
+// How wide a rectangle is that is not inverted.
+pub fn width(rect: PixelRect) -> usize
+    ensures { λ r. ⌜ r ≡ widthOf rect ⌝ }
+{
+    extent(rect.left, rect.right)
+}
+
+// How high it is.
+pub fn height(rect: PixelRect) -> usize
+    ensures { λ r. ⌜ r ≡ heightOf rect ⌝ }
+{
+    extent(rect.top, rect.bottom)
+}
+
+// Obstacle i, from its four words.
+pub fn obstacle_at(words: &[i32], i: usize) -> PixelRect
+    requires { ⌜ 4 * i + 4 ≤ length (now words) ⌝ }
+    ensures { λ r. ⌜ r ≡ getD (rects (now (words .entry))) i noRect ⌝ }
+{
+    let at = 4 * i;
+    PixelRect {
+        left: words[at],
+        top: words[at + 1],
+        right: words[at + 2],
+        bottom: words[at + 3],
+    }
 }
 
 // center - back, which i32 holds.
