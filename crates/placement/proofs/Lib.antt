@@ -2,7 +2,6 @@
 pub mod Puts
 pub mod Each
 pub mod Written
-pub mod Obstacles
 pub mod Plans
 pub mod Parts
 pub mod Counts

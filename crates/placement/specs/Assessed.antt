@@ -19,7 +19,7 @@ use Rattle.model.specs.Placement.{OutOfMap, UnbuildableTerrain, OverlapsObstacl
 use Rattle.model.specs.Refusal.{geometryOf, obstacleCap, buildingCap}
 use Rattle.model.specs.Areas.{begun}
 use Rattle.model.specs.Check.{padded}
-use Rattle.terrain.specs.Cells.{badUnder}
+use Rattle.footprints.specs.Cells.{badUnder}
 use Rattle.placement.specs.Issues.{Put}
 
 abbrev pub ground : ℕ → ℕ → List ℕ → List ℤ → Ground

@@ -3,7 +3,7 @@ ghost use mathlib.Core.Path.{_≡_};
 ghost use mathlib.Core.Bool.{not, _&&_};
 ghost use mathlib.Core.List.{map};
 ghost use Prim.Native.Nat.{_+_, _*_, _≤_, _<_};
-ghost use lib.ListN.{length, getD};
+ghost use lib.ListN.{length};
 ghost use Rattle.model.specs.declared.Geometry.the-variants.{Fits};
 ghost use Rattle.model.specs.Boxes.{inMap, footprintBox};
 ghost use Rattle.model.specs.Ground.{rects, built};
@@ -11,7 +11,7 @@ ghost use Rattle.model.specs.Placement.{index, kind, issueWord, noted, nonEmpty
 ghost use Rattle.model.specs.Refusal.{geometryOf, obstacleCap, buildingCap};
 ghost use Rattle.model.specs.Areas.{issueRoom};
 ghost use Rattle.model.specs.Check.{noRect, noPlacement};
-ghost use Rattle.terrain.specs.Cells.{badUnder};
+ghost use Rattle.footprints.specs.Cells.{badUnder};
 ghost use Rattle.placement.specs.Issues.{Put, issueOf};
 ghost use Rattle.placement.specs.Assessed.{Fitting, Assessable, OneAssessed, AllAssessed, ground, boxesOf, buildingAt, groundWords, obstacleWords, buildingWords};
 use model::BuildingGeometry;
@@ -139,27 +139,9 @@ fn on_bad_terrain(
     ensures { λ r. ⌜ r ≡ inMap width height (footprintBox b) && nonEmpty (badUnder width (now (cells .entry)) b) ⌝ }
 {
     if boxes::rect_in_map(footprint, width, height) {
-        return !terrain::footprint_buildable(width, cells, b);
+        return !footprints::footprint_buildable(width, cells, b);
     }
     false
-}
-
-// Obstacle i, of four words.
-fn obstacle_at(words: &[i32], i: usize) -> PixelRect
-    requires { ⌜ 4 * i + 3 < length (now words) ⌝ }
-    ensures { λ r. ⌜ r ≡ getD (rects (now (words .entry))) i noRect ⌝ }
-{
-    let at = 4 * i;
-    let left = words[at];
-    let top = words[at + 1];
-    let right = words[at + 2];
-    let bottom = words[at + 3];
-    PixelRect {
-        left,
-        top,
-        right,
-        bottom,
-    }
 }
 
 // Writes OverlapsObstacle for each obstacle that meets the footprint, index rising.
@@ -178,7 +160,7 @@ fn overlaps_obstacles(
     let mut next = at;
     let mut i = 0;
     while i < count {
-        let obstacle = obstacle_at(words, i);
+        let obstacle = boxes::obstacle_at(words, i);
         let found = boxes::intersects(footprint, obstacle);
         next = put_if(
             found,

@@ -10,7 +10,7 @@ use lib.ListN.{length, length-map}
 use Rattle.model.specs.declared.BuildingGeometry.{BuildingGeometry}
 use Rattle.model.specs.Boxes.{inMap, footprintBox, collisionBox}
 use Rattle.model.specs.Placement.{Issue, OutOfMap, UnbuildableTerrain, noted, nonEmpty, issueWord}
-use Rattle.terrain.specs.Cells.{badUnder}
+use Rattle.footprints.specs.Cells.{badUnder}
 use Rattle.placement.proofs.Puts.{put-length, then, words-length}
 use Rattle.placement.proofs.ground_issues.Statement.{statement}
 use Rattle.placement.proofs.ground_issues.Tie as tie

@@ -5,8 +5,8 @@ use borrow.Author.Needs.{needs}
 use denote.Ref.{now}
 use Rattle.model.specs.Boxes.{inMap, footprintBox}
 use Rattle.model.specs.Placement.{nonEmpty}
-use Rattle.terrain.specs.Cells.{badUnder}
-use Rattle.terrain.proofs.Cells.{in-map-covers}
+use Rattle.footprints.specs.Cells.{badUnder}
+use Rattle.footprints.proofs.Cells.{in-map-covers}
 use Rattle.placement.proofs.on_bad_terrain.Statement.{statement}
 use Rattle.placement.proofs.on_bad_terrain.Tie as tie
 

@@ -8,8 +8,8 @@ use Rattle.model.specs.declared.WallBuilding.{WallBuilding}
 use Rattle.model.specs.Boxes.{footprintBox}
 use Rattle.model.specs.Ground.{walkable, buildable}
 use Rattle.model.specs.Placement.{badCells}
-use Rattle.terrain.specs.declared.Found.{Found}
-use Rattle.terrain.specs.declared.Found.the-variants.{At, Nothing}
+use Rattle.footprints.specs.declared.Found.{Found}
+use Rattle.footprints.specs.declared.Found.the-variants.{At, Nothing}
 
 -- the cell is unwalkable or unbuildable
 abbrev pub unfit : List ℕ → ℕ → Bool

@@ -5,7 +5,7 @@ ghost use Prim.Native.Nat.{_≤_};
 ghost use lib.ListN.{length};
 ghost use Rattle.model.specs.Ground.{walkable, buildable};
 ghost use Rattle.model.specs.Placement.{nonEmpty};
-ghost use Rattle.terrain.specs.Cells.{FirstUnfit, Covers, badUnder, head};
+ghost use Rattle.footprints.specs.Cells.{FirstUnfit, Covers, badUnder, head};
 use model::WallBuilding;
 
 // A tile is 32 pixels, a cell 8.

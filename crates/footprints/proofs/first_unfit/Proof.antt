@@ -1,14 +1,14 @@
--- `terrain::first_unfit` meets its contract. The invariant: the cells passed are fit. Assumes nothing.
+-- `footprints::first_unfit` meets its contract. The invariant: the cells passed are fit. Assumes nothing.
 use mathlib.Core.Path.{sym, ap, _∙_}
 use mathlib.Core.Bool.{not}
 use Prim.Native.Nat.{_≤_, _-_}
 use native.Mathlib.Omega.{arith}
 use borrow.Author.Needs.{needs}
 use denote.Ref.{now}
-use Rattle.terrain.specs.Cells.{Fit}
-use Rattle.terrain.proofs.Cells.{none-yet, one-more}
-use Rattle.terrain.proofs.first_unfit.Statement.{statement}
-use Rattle.terrain.proofs.first_unfit.Tie as tie
+use Rattle.footprints.specs.Cells.{Fit}
+use Rattle.footprints.proofs.Cells.{none-yet, one-more}
+use Rattle.footprints.proofs.first_unfit.Statement.{statement}
+use Rattle.footprints.proofs.first_unfit.Tie as tie
 
 abbrev Inv-loop : tie.InvT-loop
 Inv-loop cells from to i₀ i = (from ≤ i) × Fit cells from i

@@ -16,8 +16,8 @@ use Rattle.model.specs.Lists.{placesFrom}
 use Rattle.model.specs.Boxes.{meets, inMap, cellBox, footprintBox}
 use Rattle.model.specs.Ground.{walkable, buildable}
 use Rattle.model.specs.Placement.{badCells, nonEmpty}
-use Rattle.terrain.specs.declared.Found.the-variants.{At, Nothing}
-use Rattle.terrain.specs.Cells.{Fit, unfit, head, badUnder, leftCell, rightCell, topCell, bottomCell, Covers}
+use Rattle.footprints.specs.declared.Found.the-variants.{At, Nothing}
+use Rattle.footprints.specs.Cells.{Fit, unfit, head, badUnder, leftCell, rightCell, topCell, bottomCell, Covers}
 
 -- before the first cell there is none
 pub none-yet : (cells : List ℕ) (from : ℕ) → Fit cells from from

@@ -1,12 +1,12 @@
--- `terrain::footprint_buildable` meets its contract: there is a bad cell where there is a first one. Assumes nothing.
+-- `footprints::footprint_buildable` meets its contract: there is a bad cell where there is a first one. Assumes nothing.
 use mathlib.Core.Path.{sym, ap, _∙_}
 use mathlib.Core.Bool.{not}
 use borrow.Author.Needs.{needs}
 use denote.Ref.{now}
-use Rattle.terrain.specs.Cells.{badUnder}
-use Rattle.terrain.proofs.Cells.{head-nothing, head-at}
-use Rattle.terrain.proofs.footprint_buildable.Statement.{statement}
-use Rattle.terrain.proofs.footprint_buildable.Tie as tie
+use Rattle.footprints.specs.Cells.{badUnder}
+use Rattle.footprints.proofs.Cells.{head-nothing, head-at}
+use Rattle.footprints.proofs.footprint_buildable.Statement.{statement}
+use Rattle.footprints.proofs.footprint_buildable.Tie as tie
 
 first-bad-cell-requires : tie.Need-first-bad-cell-requires
 first-bad-cell-requires c κs = search needs

@@ -1,4 +1,4 @@
--- `terrain::first_bad_cell` meets its contract. The invariant: of the cells above the present row, none under the building is unfit. Assumes nothing.
+-- `footprints::first_bad_cell` meets its contract. The invariant: of the cells above the present row, none under the building is unfit. Assumes nothing.
 use mathlib.Core.Path.{sym, ap, subst, _∙_}
 use Prim.Native.Nat.{ℕ, _+_, _*_, _-_, _≤_}
 use native.Mathlib.Omega.{arith}
@@ -6,10 +6,10 @@ use borrow.Author.Needs.{needs}
 use denote.Ref.{now}
 use lib.ListN.{length}
 use Rattle.numbers.proofs.Places.{rows-fit}
-use Rattle.terrain.specs.Cells.{FirstUnfit, UnfitAt, leftCell, rightCell, topCell, bottomCell, head}
-use Rattle.terrain.proofs.Cells.{Clear, rows-above, row-clear, rows-below, under-here, none-bad, first-bad}
-use Rattle.terrain.proofs.first_bad_cell.Statement.{statement}
-use Rattle.terrain.proofs.first_bad_cell.Tie as tie
+use Rattle.footprints.specs.Cells.{FirstUnfit, UnfitAt, leftCell, rightCell, topCell, bottomCell, head}
+use Rattle.footprints.proofs.Cells.{Clear, rows-above, row-clear, rows-below, under-here, none-bad, first-bad}
+use Rattle.footprints.proofs.first_bad_cell.Statement.{statement}
+use Rattle.footprints.proofs.first_bad_cell.Tie as tie
 
 abbrev Inv-loop : tie.InvT-loop
 Inv-loop width cells w left right top bottom y₀ y = (top ≤ y) × Clear w left right top bottom cells (y * w)
