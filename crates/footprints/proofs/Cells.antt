@@ -9,15 +9,14 @@ use native.Mathlib.Omega.{arith}
 use borrow.Author.Tests.{lt-ltb}
 use lib.Dec.{T, ltb, leb, ltb→lt, leb→le}
 use lib.ListN.{length, getD}
-use Rattle.numbers.proofs.Tests.{left-of, right-of}
-use Rattle.numbers.proofs.Places.{row-below}
+use Rattle.numbers.proofs.Places.{row-below, rows-fit}
 use Rattle.model.specs.declared.WallBuilding.{WallBuilding}
 use Rattle.model.specs.Lists.{placesFrom}
 use Rattle.model.specs.Boxes.{meets, inMap, cellBox, footprintBox}
 use Rattle.model.specs.Ground.{walkable, buildable}
 use Rattle.model.specs.Placement.{badCells, nonEmpty}
 use Rattle.footprints.specs.declared.Found.the-variants.{At, Nothing}
-use Rattle.footprints.specs.Cells.{Fit, unfit, head, badUnder, leftCell, rightCell, topCell, bottomCell, Covers}
+use Rattle.footprints.specs.Cells.{Fit, UnfitAt, unfit, head, badUnder, leftCell, rightCell, topCell, bottomCell, Covers}
 
 -- before the first cell there is none
 pub none-yet : (cells : List ℕ) (from : ℕ) → Fit cells from from
@@ -34,7 +33,7 @@ one-more cells from i fit here j h k = pick (decLt j i)
 -- ---- the first place where a test holds
 module _ {A : Type 0} (test : ℕ → A → Bool) (d : A) where
   -- it holds nowhere
-  pub nowhere : (n : ℕ) (l : List A) → ((j : ℕ) → j < length l → test (n + j) (getD l j d) ≡ false) → placesFrom n test l ≡ []
+  nowhere : (n : ℕ) (l : List A) → ((j : ℕ) → j < length l → test (n + j) (getD l j d) ≡ false) → placesFrom n test l ≡ []
   unfolding placesFrom
   nowhere n [] h = refl
   nowhere n (a ∷ l) h =
@@ -42,7 +41,7 @@ module _ {A : Type 0} (test : ℕ → A → Bool) (d : A) where
       rw (rw e at (h 0 (omega arith))) (nowhere (suc n) l (λ j k. let s : n + suc j ≡ suc n + j = omega arith in rw s at (h (suc j) (omega arith))))
 
   -- it holds at i, and at no place before
-  pub somewhere : (n i : ℕ) (l : List A) → i < length l → test (n + i) (getD l i d) ≡ true → ((j : ℕ) → j < i → test (n + j) (getD l j d) ≡ false) → head (placesFrom n test l) ≡ At (n + i)
+  somewhere : (n i : ℕ) (l : List A) → i < length l → test (n + i) (getD l i d) ≡ true → ((j : ℕ) → j < i → test (n + j) (getD l j d) ≡ false) → head (placesFrom n test l) ≡ At (n + i)
   unfolding placesFrom
   somewhere n i [] k t h = absurd (omega arith)
   somewhere n zero (a ∷ l) k t h = let e : n + 0 ≡ n = omega arith in rw (rw e at t) (ap At (sym e))
@@ -57,13 +56,18 @@ decided : (a b : Bool) → (T a → b ≡ false) → a && b ≡ false
 decided true b h = h tt
 decided false b h = refl
 
+all-four : (a b c d : Bool) → T (a && b && c && d) → T a × T b × T c × T d
+all-four true true true true t = (tt, tt, tt, tt)
+all-four true true true false t = absurd t
+all-four true true false d t = absurd t
+all-four true false c d t = absurd t
+all-four false b c d t = absurd t
+
 -- four comparisons that hold
 four : (a b c d e f g h : ℕ) → T (ltb a b && ltb c d && ltb e f && ltb g h) → (a < b) × (c < d) × (e < f) × (g < h)
 four a b c d e f g h t =
-    let ab = left-of (ltb a b) (ltb c d) (left-of (ltb a b && ltb c d) (ltb e f) (left-of (ltb a b && ltb c d && ltb e f) (ltb g h) t)) in
-    let cd = right-of (ltb a b) (ltb c d) (left-of (ltb a b && ltb c d) (ltb e f) (left-of (ltb a b && ltb c d && ltb e f) (ltb g h) t)) in
-    let ef = right-of (ltb a b && ltb c d) (ltb e f) (left-of (ltb a b && ltb c d && ltb e f) (ltb g h) t) in
-    (ltb→lt a b ab, ltb→lt c d cd, ltb→lt e f ef, ltb→lt g h (right-of (ltb a b && ltb c d && ltb e f) (ltb g h) t))
+    let all = all-four (ltb a b) (ltb c d) (ltb e f) (ltb g h) t in
+    (ltb→lt a b (all .0), ltb→lt c d (all .1), ltb→lt e f (all .2), ltb→lt g h (all .3))
 
 hold : (a b c d e f g h : ℕ) → a < b → c < d → e < f → g < h → ltb a b && ltb c d && ltb e f && ltb g h ≡ true
 hold a b c d e f g h p q r s = rw (lt-ltb a b p, lt-ltb c d q, lt-ltb e f r, lt-ltb g h s)
@@ -95,18 +99,18 @@ module _ (w : ℕ) (b : WallBuilding) (j : ℕ) where
       (32 * b .tile .y) (8 * (j / w) + 8) (8 * (j / w)) (32 * b .tile .y + 32 * b .footprint .«height_tiles»)
       (omega arith) (omega arith) (omega arith) (omega arith)
 
-module _ (w left right top bottom : ℕ) (cells : List ℕ) where
-  -- of the cells below e, none in the ranges is unfit
-  abbrev pub Clear : ℕ → Type 0
-  Clear e = (j : ℕ) → j < e → Under w left right top bottom j → unfit cells j ≡ false
+-- of the cells below e, none in the ranges is unfit
+abbrev pub Clear : ℕ → ℕ → ℕ → ℕ → ℕ → List ℕ → ℕ → Type 0
+Clear w left right top bottom cells e = (j : ℕ) → j < e → Under w left right top bottom j → unfit cells j ≡ false
 
-  -- the rows above
-  pub rows-above : Clear (top * w)
-  rows-above j h u = absurd (omega (arith, mul-le-mul-right w (u .from-top), div-add-mod' j w))
+module _ (w : ℕ) (cells : List ℕ) (b : WallBuilding) where
+  -- of the cells below e, none under the building is unfit
+  abbrev ClearUnder : ℕ → Type 0
+  ClearUnder e = Clear w (leftCell b) (rightCell b) (topCell b) (bottomCell b) cells e
 
-  -- a row of the ranges, up to a place e of it
-  pub row-clear : (y e : ℕ) → e ≤ (y + 1) * w → Clear (y * w) → ((j : ℕ) → y * w + left ≤ j → j < y * w + right → j < e → unfit cells j ≡ false) → Clear e
-  row-clear y e h clear fit j k u = pick (decLt j (y * w))
+  -- a row of the building, up to a place e of it
+  up-to : (y e : ℕ) → e ≤ (y + 1) * w → ClearUnder (y * w) → ((j : ℕ) → y * w + leftCell b ≤ j → j < y * w + rightCell b → j < e → unfit cells j ≡ false) → ClearUnder e
+  up-to y e h clear fit j k u = pick (decLt j (y * w))
     where
       pick : Dec (j < y * w) → unfit cells j ≡ false
       pick (yes l) = clear j l u
@@ -116,25 +120,13 @@ module _ (w left right top bottom : ℕ) (cells : List ℕ) where
           let d : j / w * w + j % w ≡ j = div-add-mod' j w in
           fit j (omega arith) (omega arith) k
 
-  -- the rows below
-  pub rows-below : (y : ℕ) → right ≤ w → bottom ≤ y → Clear (y * w) → (e : ℕ) → Clear e
-  rows-below y r h clear e j k u = pick (decLt j (y * w))
-    where
-      pick : Dec (j < y * w) → unfit cells j ≡ false
-      pick (yes l) = clear j l u
-      pick (no l) = absurd (omega (arith, row-below w (j % w) (j / w) y (omega arith) (omega arith), div-add-mod' j w))
-
-  -- a place of a row
-  pub under-here : (y i : ℕ) → right ≤ w → top ≤ y → y < bottom → y * w + left ≤ i → i < y * w + right → Under w left right top bottom i
-  under-here y i r u d l k =
+  -- a place of such a row
+  in-row : (y i : ℕ) → rightCell b ≤ w → topCell b ≤ y → y < bottomCell b → y * w + leftCell b ≤ i → i < y * w + rightCell b → Beneath w b i
+  in-row y i r u d l k =
       let q : i / w ≡ y = div-eq-of-lt-le w (omega arith) (omega arith) in
       let p : i / w * w ≡ y * w = ap (λ (n : ℕ). n * w) q in
       let e : i / w * w + i % w ≡ i = div-add-mod' i w in
       record { from-left = omega arith; to-right = omega arith; from-top = omega arith; to-bottom = omega arith }
-
-module _ (w : ℕ) (cells : List ℕ) (b : WallBuilding) where
-  abbrev pub ClearUnder : ℕ → Type 0
-  ClearUnder e = Clear w (leftCell b) (rightCell b) (topCell b) (bottomCell b) cells e
 
   -- the test of a bad cell
   abbrev bad : ℕ → ℕ → Bool
@@ -143,16 +135,35 @@ module _ (w : ℕ) (cells : List ℕ) (b : WallBuilding) where
   not-bad : (e : ℕ) → ClearUnder e → (j : ℕ) → j < e → bad (0 + j) (getD cells j 0) ≡ false
   not-bad e clear j h = rw (zero-add j) (decided (meets (footprintBox b) (cellBox w j)) (unfit cells j) (λ t. clear j h (meets-under w b j t)))
 
-  -- no cell under the building is a bad one
-  pub none-bad : ClearUnder (length cells) → badUnder w cells b ≡ []
-  unfolding badCells
-  none-bad clear = nowhere bad 0 0 cells (not-bad (length cells) clear)
+  -- the rows above the building
+  pub rows-above : ClearUnder (topCell b * w)
+  rows-above j h u = absurd (omega (arith, mul-le-mul-right w (u .from-top), div-add-mod' j w))
 
-  -- cell i is the first
-  pub first-bad : (i : ℕ) → i < length cells → Under w (leftCell b) (rightCell b) (topCell b) (bottomCell b) i → unfit cells i ≡ true → ClearUnder i → head (badUnder w cells b) ≡ At i
-  unfolding badCells
-  first-bad i h u here clear =
-      somewhere bad 0 0 i cells h (rw (zero-add i, under-meets w b i u) here) (not-bad i clear) ∙ ap At (zero-add i)
+  module _ (y : ℕ) (clear : ClearUnder (y * w)) where
+    -- a row of the building with no unfit cell
+    pub row-passed : Fit cells (y * w + leftCell b) (y * w + rightCell b) → ClearUnder ((y + 1) * w)
+    row-passed fit = up-to y ((y + 1) * w) (omega arith) clear (λ j h k m. fit j h k)
+
+    -- a row with one: the first there is the first of the bad cells
+    pub row-stopped : (i : ℕ) → Covers w cells b → topCell b ≤ y → y < bottomCell b → UnfitAt cells (y * w + leftCell b) (y * w + rightCell b) i → head (badUnder w cells b) ≡ At i
+    unfolding badCells
+    row-stopped i v top bottom u =
+        let beneath = in-row y i (v .across) top bottom (u .low) (u .high) in
+        let within : i < length cells = omega (arith, rows-fit w y (bottomCell b) (length cells) bottom (v .down)) in
+        let none-before = up-to y i (omega arith) clear (λ j h k m. u .before j h m) in
+        somewhere bad 0 0 i cells within (rw (zero-add i, under-meets w b i beneath) (u .here)) (not-bad i none-before) ∙ ap At (zero-add i)
+
+    -- past the building's rows: there is no bad cell
+    pub rows-done : rightCell b ≤ w → bottomCell b ≤ y → badUnder w cells b ≡ []
+    unfolding badCells
+    rows-done r h = nowhere bad 0 0 cells (not-bad (length cells) rest)
+      where
+        rest : ClearUnder (length cells)
+        rest j k u = pick (decLt j (y * w))
+          where
+            pick : Dec (j < y * w) → unfit cells j ≡ false
+            pick (yes l) = clear j l u
+            pick (no l) = absurd (omega (arith, row-below w (j % w) (j / w) y (omega arith) (omega arith), div-add-mod' j w))
 
 -- a footprint in the map covers cells of the map
 pub in-map-covers : (w h : ℕ) (cells : List ℕ) (b : WallBuilding) → inMap w h (footprintBox b) ≡ true → length cells ≡ w * h → Covers w cells b
@@ -162,9 +173,9 @@ in-map-covers w h cells b e l =
     let y = 32 * b .tile .y in
     let r = x + 32 * b .footprint .«width_tiles» in
     let d = y + 32 * b .footprint .«height_tiles» in
-    let t : T (leb 0 x && leb 0 y && leb r (8 * w) && leb d (8 * h)) = subst T (sym e) tt in
-    let across = leb→le r (8 * w) (right-of (leb 0 x && leb 0 y) (leb r (8 * w)) (left-of (leb 0 x && leb 0 y && leb r (8 * w)) (leb d (8 * h)) t)) in
-    let down = leb→le d (8 * h) (right-of (leb 0 x && leb 0 y && leb r (8 * w)) (leb d (8 * h)) t) in
+    let all = all-four (leb 0 x) (leb 0 y) (leb r (8 * w)) (leb d (8 * h)) (subst T (sym e) tt) in
+    let across = leb→le r (8 * w) (all .2) in
+    let down = leb→le d (8 * h) (all .3) in
     let rows : bottomCell b ≤ h = omega arith in
     record { across = omega arith; down = omega (arith, mul-le-mul-right w rows, mul-comm w h) }
 

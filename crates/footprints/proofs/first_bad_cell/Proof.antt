@@ -1,13 +1,13 @@
 -- `footprints::first_bad_cell` meets its contract. The invariant: of the cells above the present row, none under the building is unfit. Assumes nothing.
 use mathlib.Core.Path.{sym, ap, subst, _∙_}
-use Prim.Native.Nat.{ℕ, _+_, _*_, _-_, _≤_}
+use Prim.Native.Nat.{_+_, _*_, _-_, _≤_}
 use native.Mathlib.Omega.{arith}
 use borrow.Author.Needs.{needs}
 use denote.Ref.{now}
 use lib.ListN.{length}
 use Rattle.numbers.proofs.Places.{rows-fit}
-use Rattle.footprints.specs.Cells.{FirstUnfit, UnfitAt, leftCell, rightCell, topCell, bottomCell, head}
-use Rattle.footprints.proofs.Cells.{Clear, rows-above, row-clear, rows-below, under-here, none-bad, first-bad}
+use Rattle.footprints.specs.Cells.{FirstUnfit, leftCell, rightCell, bottomCell, head}
+use Rattle.footprints.proofs.Cells.{Clear, rows-above, row-passed, row-stopped, rows-done}
 use Rattle.footprints.proofs.first_bad_cell.Statement.{statement}
 use Rattle.footprints.proofs.first_bad_cell.Tie as tie
 
@@ -50,7 +50,7 @@ add-bottom c = search needs
 loop-holds : tie.Need-loop-holds Inv-loop μ-loop
 loop-holds c =
     let a = c .before .before .before .before .before .args in
-    (omega arith, rows-above (a .width) (leftCell (a .b)) (rightCell (a .b)) (topCell (a .b)) (bottomCell (a .b)) (now (a .cells)))
+    (omega arith, rows-above (a .width) (now (a .cells)) (a .b))
 
 -- the row's cells under the building are cells of the map
 row-within : (c : tie.In-loop Inv-loop μ-loop) → c .before .loop .y * c .before .before .before .before .before .before .before .args .width + rightCell (c .before .before .before .before .before .before .before .args .b) ≤ length (now (c .before .before .before .before .before .before .before .args .cells))
@@ -81,18 +81,11 @@ returns c =
     let f = c .before .before in
     let l : tie.At-loop Inv-loop μ-loop = f .before .before in
     let s = l .before .before .before .before .before .before in
-    let a = s .args in
-    let y = l .loop .y in
-    let n = now (a .cells) in
-    let i : ℕ = c .enum-told2 .given .0 .0 in
     let e = c .enum-told2 .given .1 in
-    let u : UnfitAt n (y * a .width + leftCell (a .b)) (y * a .width + rightCell (a .b)) i = subst (FirstUnfit n (y * a .width + leftCell (a .b)) (y * a .width + rightCell (a .b))) e (f .first-unfit .ensures) in
     e
     ∙ sym
-    (first-bad (a .width) n (a .b) i (omega (arith, u, row-within (f .before)))
-    (under-here (a .width) (leftCell (a .b)) (rightCell (a .b)) (topCell (a .b)) (bottomCell (a .b)) n y i (omega (arith, s)) (omega arith) (omega arith) (u .low) (u .high))
-    (u .here)
-    (row-clear (a .width) (leftCell (a .b)) (rightCell (a .b)) (topCell (a .b)) (bottomCell (a .b)) n y i (omega (arith, u, s)) (l .loop .inv .1) (λ j h k m. u .before j h m)))
+    (row-stopped (s .args .width) (now (s .args .cells)) (s .args .b) (l .loop .y) (l .loop .inv .1) (c .enum-told2 .given .0 .0) (s .pre) (omega arith) (omega arith)
+    (subst (FirstUnfit (now (s .args .cells)) (l .loop .y * s .args .width + leftCell (s .args .b)) (l .loop .y * s .args .width + rightCell (s .args .b))) e (f .first-unfit .ensures)))
 
 add-y : tie.Need-add-y Inv-loop μ-loop
 add-y c = omega arith
@@ -104,17 +97,17 @@ loop-again : tie.Need-loop-again Inv-loop μ-loop
 loop-again c =
     let f = c .before .before in
     let l : tie.At-loop Inv-loop μ-loop = f .before .before in
-    let a = l .before .before .before .before .before .before .args in
-    let e = c .enum-told .given .1 in
-    let u = subst (FirstUnfit (now (a .cells)) (l .loop .y * a .width + leftCell (a .b)) (l .loop .y * a .width + rightCell (a .b))) e (f .first-unfit .ensures) in
-    (omega arith, row-clear (a .width) (leftCell (a .b)) (rightCell (a .b)) (topCell (a .b)) (bottomCell (a .b)) (now (a .cells)) (l .loop .y) ((l .loop .y + 1) * a .width) (omega arith) (l .loop .inv .1) (λ j h k m. u j h k))
+    let a = l .before .before .before .before .before .before .args in (
+      omega arith,
+      row-passed (a .width) (now (a .cells)) (a .b) (l .loop .y) (l .loop .inv .1)
+          (subst (FirstUnfit (now (a .cells)) (l .loop .y * a .width + leftCell (a .b)) (l .loop .y * a .width + rightCell (a .b))) (c .enum-told .given .1) (f .first-unfit .ensures)),
+    )
 
 returns-2 : tie.Need-returns-2 Inv-loop μ-loop
 returns-2 c =
     let l = c .before in
-    let a = l .before .before .before .before .before .before .args in
-    let n = now (a .cells) in
-    sym (ap head (none-bad (a .width) n (a .b) (rows-below (a .width) (leftCell (a .b)) (rightCell (a .b)) (topCell (a .b)) (bottomCell (a .b)) n (l .loop .y) (omega arith) (omega arith) (l .loop .inv .1) (length n))))
+    let s = l .before .before .before .before .before .before in
+    sym (ap head (rows-done (s .args .width) (now (s .args .cells)) (s .args .b) (l .loop .y) (l .loop .inv .1) (s .pre .across) (omega arith)))
 
 pub first-bad-cell-spec : {M : Type 1} → statement M
 first-bad-cell-spec =
