@@ -1,6 +1,6 @@
 -- What is assessed, and the issue words of one building by their kind. Assumes nothing.
 use mathlib.Core.Path.{_≡_}
-use mathlib.Core.Bool.{not, _&&_}
+use mathlib.Core.Bool.{Bool, not, _&&_}
 use mathlib.Core.List.{List, _++_, map}
 use Prim.Native.Nat.{ℕ, _+_, _*_, _≤_, _<_}
 use lib.Dec.{eqb}
@@ -39,13 +39,20 @@ pub record Assessable (g : Ground) (plan : Plan) : Type 0 where
   pub few : length (obstacles g) ≤ obstacleCap
   pub fitting : Fitting plan
 
+-- the test of obstacle i, and of building i beside building k
+abbrev pub metBy : PixelRect → ℕ → PixelRect → Bool
+metBy footprint i o = meets footprint o
+
+abbrev pub otherMetBy : ℕ → PixelRect → ℕ → WallBuilding → Bool
+otherMetBy k footprint i b = not (eqb i k) && meets footprint (footprintBox b)
+
 -- the words of building k for the obstacles that its footprint meets
 abbrev pub obstacleWords : ℕ → PixelRect → List PixelRect → List ℕ
-obstacleWords k footprint os = map (issueWord k) (map OverlapsObstacle (places (λ i o. meets footprint o) os))
+obstacleWords k footprint os = map (issueWord k) (map OverlapsObstacle (places (metBy footprint) os))
 
 -- for the other buildings whose footprints meet it
 abbrev pub buildingWords : ℕ → PixelRect → List WallBuilding → List ℕ
-buildingWords k footprint bs = map (issueWord k) (map OverlapsBuilding (places (λ i c. not (eqb i k) && meets footprint (footprintBox c)) bs))
+buildingWords k footprint bs = map (issueWord k) (map OverlapsBuilding (places (otherMetBy k footprint) bs))
 
 -- for the map's edge and the terrain
 abbrev pub groundWords : ℕ → ℕ → List ℕ → ℕ → WallBuilding → List ℕ

@@ -1,18 +1,16 @@
 -- `placement::overlaps_buildings` meets its contract. The invariant: the words of the buildings passed are written. Assumes nothing.
 use mathlib.Core.Path.{_≡_, sym, ap, _∙_}
-use mathlib.Core.Bool.{not, _&&_}
 use Prim.Native.Nat.{_-_, _≤_}
 use native.Mathlib.Omega.{arith}
 use borrow.Author.Needs.{needs}
 use denote.Ref.{now}
-use lib.Dec.{eqb}
 use lib.ListN.{length, getD, length-map}
 use Rattle.model.specs.declared.WallBuilding.{WallBuilding}
 use Rattle.model.specs.declared.BuildingGeometry.{BuildingGeometry}
 use Rattle.model.specs.Boxes.{meets, footprintBox}
 use Rattle.model.specs.Ground.{built}
 use Rattle.model.specs.Placement.{OverlapsBuilding}
-use Rattle.placement.specs.Assessed.{noBuilding}
+use Rattle.placement.specs.Assessed.{noBuilding, otherMetBy}
 use Rattle.placement.proofs.Written.{Written, at-first, room-here, after-turn, at-last}
 use Rattle.placement.proofs.Puts.{put-length}
 use Rattle.placement.proofs.Plans.{built-length, built-at, fits-at}
@@ -21,7 +19,7 @@ use Rattle.placement.proofs.overlaps_buildings.Tie as tie
 
 abbrev Inv-loop : tie.InvT-loop
 Inv-loop footprint building issues₀ at plan count next₀ i₀ issues next i =
-    (i ≤ count) × Written building OverlapsBuilding (λ k b. not (eqb k building) && meets footprint (footprintBox b)) (built plan) issues₀ at i issues next
+    (i ≤ count) × Written building OverlapsBuilding (otherMetBy building footprint) (built plan) issues₀ at i issues next
 
 abbrev μ-loop : tie.MeasureT-loop
 μ-loop footprint building issues₀ at plan count next₀ i₀ issues next i = count - i
@@ -43,7 +41,7 @@ found-is c =
 loop-holds : tie.Need-loop-holds Inv-loop μ-loop
 loop-holds c =
     let s = c .before in
-    (omega arith, at-first (s .args .building) OverlapsBuilding (λ k b. not (eqb k (s .args .building)) && meets (s .args .footprint) (footprintBox b)) (built (s .args .t1)) (now (s .args .issues)) (s .args .at) (s .pre .1))
+    (omega arith, at-first (s .args .building) OverlapsBuilding (otherMetBy (s .args .building) (s .args .footprint)) (built (s .args .t1)) (now (s .args .issues)) (s .args .at) (s .pre .1))
 
 mul-other : tie.Need-mul-other Inv-loop μ-loop
 mul-other c = omega (arith, c .before .before .before .pre .0 .1 .count)
@@ -67,7 +65,7 @@ put-if-requires c κs =
       s .pre .0 .0,
       (
         omega (arith, s .pre .0 .1 .count),
-        rw (found-is (c .before)) (room-here (s .args .building) OverlapsBuilding (λ k b. not (eqb k (s .args .building)) && meets (s .args .footprint) (footprintBox b)) (built (s .args .t1)) (now (s .args .issues)) (s .args .at) noBuilding (omega (arith, built-length (s .args .t1) (long s) (s .pre .0 .1))) (l .loop .inv .1) (s .pre .1)),
+        rw (found-is (c .before)) (room-here (s .args .building) OverlapsBuilding (otherMetBy (s .args .building) (s .args .footprint)) (built (s .args .t1)) (now (s .args .issues)) (s .args .at) noBuilding (omega (arith, built-length (s .args .t1) (long s) (s .pre .0 .1))) (l .loop .inv .1) (s .pre .1)),
       ),
     )
 
@@ -82,7 +80,7 @@ loop-again c =
     let p = c .before .before in
     let l : tie.At-loop Inv-loop μ-loop = p .before .before .before .before .before .before in
     let s = l .before .before in
-    (omega arith, after-turn (s .args .building) OverlapsBuilding (λ k b. not (eqb k (s .args .building)) && meets (s .args .footprint) (footprintBox b)) (built (s .args .t1)) (now (s .args .issues)) (s .args .at) noBuilding (omega (arith, built-length (s .args .t1) (long s) (s .pre .0 .1))) (l .loop .inv .1) (rw (found-is (p .before .before)) at (p .put-if .ensures)))
+    (omega arith, after-turn (s .args .building) OverlapsBuilding (otherMetBy (s .args .building) (s .args .footprint)) (built (s .args .t1)) (now (s .args .issues)) (s .args .at) noBuilding (omega (arith, built-length (s .args .t1) (long s) (s .pre .0 .1))) (l .loop .inv .1) (rw (found-is (p .before .before)) at (p .put-if .ensures)))
 
 same-length : tie.Need-same-length Inv-loop μ-loop
 same-length c = put-length (c .before .loop .inv .1)
@@ -91,7 +89,7 @@ returns : tie.Need-returns Inv-loop μ-loop
 returns c =
     let l = c .before in
     let s = l .before .before in
-    at-last (s .args .building) OverlapsBuilding (λ k b. not (eqb k (s .args .building)) && meets (s .args .footprint) (footprintBox b)) (built (s .args .t1)) (now (s .args .issues)) (s .args .at) (l .loop .i) (l .loop .inv .1) (omega (arith, built-length (s .args .t1) (long s) (s .pre .0 .1)))
+    at-last (s .args .building) OverlapsBuilding (otherMetBy (s .args .building) (s .args .footprint)) (built (s .args .t1)) (now (s .args .issues)) (s .args .at) (l .loop .i) (l .loop .inv .1) (omega (arith, built-length (s .args .t1) (long s) (s .pre .0 .1)))
 
 pub overlaps-buildings-spec : {M : Type 1} → statement M
 overlaps-buildings-spec =

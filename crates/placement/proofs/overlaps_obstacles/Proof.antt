@@ -10,6 +10,7 @@ use Rattle.model.specs.Ground.{rects}
 use Rattle.model.specs.Placement.{OverlapsObstacle}
 use Rattle.model.specs.Check.{noRect}
 use Rattle.model.proofs.Lists.{rects-length}
+use Rattle.placement.specs.Assessed.{metBy}
 use Rattle.placement.proofs.Puts.{put-length}
 use Rattle.placement.proofs.Written.{Written, at-first, room-here, after-turn, at-last}
 use Rattle.placement.proofs.overlaps_obstacles.Statement.{statement}
@@ -17,7 +18,7 @@ use Rattle.placement.proofs.overlaps_obstacles.Tie as tie
 
 abbrev Inv-loop : tie.InvT-loop
 Inv-loop words footprint building issues₀ at count next₀ i₀ issues next i =
-    (i ≤ count) × Written building OverlapsObstacle (λ k o. meets footprint o) (rects words) issues₀ at i issues next
+    (i ≤ count) × Written building OverlapsObstacle (metBy footprint) (rects words) issues₀ at i issues next
 
 abbrev μ-loop : tie.MeasureT-loop
 μ-loop words footprint building issues₀ at count next₀ i₀ issues next i = count - i
@@ -25,7 +26,7 @@ abbrev μ-loop : tie.MeasureT-loop
 loop-holds : tie.Need-loop-holds Inv-loop μ-loop
 loop-holds c =
     let s = c .before in
-    (omega arith, at-first (s .args .building) OverlapsObstacle (λ k o. meets (s .args .footprint) o) (rects (now (s .args .words))) (now (s .args .issues)) (s .args .at) (s .pre .1))
+    (omega arith, at-first (s .args .building) OverlapsObstacle (metBy (s .args .footprint)) (rects (now (s .args .words))) (now (s .args .issues)) (s .args .at) (s .pre .1))
 
 obstacle-at-requires : tie.Need-obstacle-at-requires Inv-loop μ-loop
 obstacle-at-requires c κs = omega arith
@@ -49,7 +50,7 @@ put-if-requires c κs =
       s .pre .0 .0,
       (
         omega (arith, s .pre .0 .1),
-        rw (found-is (c .before)) (room-here (s .args .building) OverlapsObstacle (λ k o. meets (s .args .footprint) o) (rects (now (s .args .words))) (now (s .args .issues)) (s .args .at) noRect h (l .loop .inv .1) (s .pre .1)),
+        rw (found-is (c .before)) (room-here (s .args .building) OverlapsObstacle (metBy (s .args .footprint)) (rects (now (s .args .words))) (now (s .args .issues)) (s .args .at) noRect h (l .loop .inv .1) (s .pre .1)),
       ),
     )
 
@@ -65,7 +66,7 @@ loop-again c =
     let l : tie.At-loop Inv-loop μ-loop = p .before .before .before .before .before in
     let s = l .before .before in
     let h = passes (p .before .before .before .before) in
-    (omega arith, after-turn (s .args .building) OverlapsObstacle (λ k o. meets (s .args .footprint) o) (rects (now (s .args .words))) (now (s .args .issues)) (s .args .at) noRect h (l .loop .inv .1) (rw (found-is (p .before .before)) at (p .put-if .ensures)))
+    (omega arith, after-turn (s .args .building) OverlapsObstacle (metBy (s .args .footprint)) (rects (now (s .args .words))) (now (s .args .issues)) (s .args .at) noRect h (l .loop .inv .1) (rw (found-is (p .before .before)) at (p .put-if .ensures)))
 
 same-length : tie.Need-same-length Inv-loop μ-loop
 same-length c = put-length (c .before .loop .inv .1)
@@ -74,7 +75,7 @@ returns : tie.Need-returns Inv-loop μ-loop
 returns c =
     let l = c .before in
     let s = l .before .before in
-    at-last (s .args .building) OverlapsObstacle (λ k o. meets (s .args .footprint) o) (rects (now (s .args .words))) (now (s .args .issues)) (s .args .at) (l .loop .i) (l .loop .inv .1) (omega (arith, rects-length (now (s .args .words))))
+    at-last (s .args .building) OverlapsObstacle (metBy (s .args .footprint)) (rects (now (s .args .words))) (now (s .args .issues)) (s .args .at) (l .loop .i) (l .loop .inv .1) (omega (arith, rects-length (now (s .args .words))))
 
 pub overlaps-obstacles-spec : {M : Type 1} → statement M
 overlaps-obstacles-spec =
