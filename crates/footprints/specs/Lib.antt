@@ -1,0 +1,2 @@
+-- What the contracts say of the cells under a building, over the definitions of `model`.
+pub mod Cells

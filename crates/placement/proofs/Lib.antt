@@ -1,0 +1,8 @@
+-- The laws that the proofs of several functions cite.
+pub mod Puts
+pub mod Each
+pub mod Written
+pub mod Plans
+pub mod Parts
+pub mod Counts
+pub mod Assessed
