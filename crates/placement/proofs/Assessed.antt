@@ -13,7 +13,8 @@ use Rattle.model.specs.Placement.{issuesOf, issueWord, placementOf, placements,
 use Rattle.model.specs.Areas.{issueRoom}
 use Rattle.model.specs.Check.{noPlacement}
 use Rattle.placement.specs.Issues.{Put}
-use Rattle.placement.specs.Assessed.{OneAssessed, AllAssessed, noBuilding, buildingAt}
+use Rattle.model.specs.Packed.{noBuilding}
+use Rattle.placement.specs.Assessed.{OneAssessed, AllAssessed, buildingAt}
 use Rattle.placement.proofs.Puts.{nothing-put, put-length, then}
 use Rattle.placement.proofs.Each.{each, eachFrom, each-next, each-room, each-all, buildingPart, placementPart, words-each, placements-each}
 use Rattle.placement.proofs.Counts.{room-enough}

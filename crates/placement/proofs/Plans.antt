@@ -11,7 +11,8 @@ use Rattle.model.specs.declared.WallQuery.{WallQuery}
 use Rattle.model.specs.Ground.{Ground, built}
 use Rattle.model.specs.Refusal.{geometryOf}
 use Rattle.model.proofs.Valid.{Valid}
-use Rattle.placement.specs.Assessed.{Fitting, Assessable, boxesOf, noBuilding}
+use Rattle.model.specs.Packed.{noBuilding}
+use Rattle.placement.specs.Assessed.{Fitting, Assessable, boxesOf}
 
 module _ (p : Plan) (room : length (p .buildings) ≡ 32) (fitting : Fitting p) where
   -- it has as many as it counts

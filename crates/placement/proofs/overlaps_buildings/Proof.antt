@@ -10,7 +10,8 @@ use Rattle.model.specs.declared.BuildingGeometry.{BuildingGeometry}
 use Rattle.model.specs.Boxes.{meets, footprintBox}
 use Rattle.model.specs.Ground.{built}
 use Rattle.model.specs.Placement.{OverlapsBuilding}
-use Rattle.placement.specs.Assessed.{noBuilding, otherMetBy}
+use Rattle.model.specs.Packed.{noBuilding}
+use Rattle.placement.specs.Assessed.{otherMetBy}
 use Rattle.placement.proofs.Written.{Written, at-first, room-here, after-turn, at-last}
 use Rattle.placement.proofs.Puts.{put-length}
 use Rattle.placement.proofs.Plans.{built-length, built-at, fits-at}
