@@ -1,0 +1,4 @@
+-- `Some`: some number of a range passes a test. `Adding`: what stamps add, one after the other. `Clipping`: a widened and clipped blocker's places.
+pub mod Some
+pub mod Adding
+pub mod Clipping
