@@ -2,3 +2,4 @@
 pub mod Some
 pub mod Adding
 pub mod Clipping
+pub mod Cells

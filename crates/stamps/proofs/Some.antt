@@ -30,6 +30,14 @@ pub or-cases : (a b : Bool) → T (a || b) → T a ⊎ T b
 or-cases true b h = inl tt
 or-cases false b h = inr h
 
+-- no number from a up to i has P, nor has i
+pub none-more : (P : ℕ → Type 0) (a i : ℕ) → ((k : ℕ) → a ≤ k → k < i → P k → ⊥) → (P i → ⊥) → (k : ℕ) → a ≤ k → k < i + 1 → P k → ⊥
+none-more P a i f n k l u p = pick (decLt k i)
+  where
+    pick : Dec (k < i) → ⊥
+    pick (yes v) = f k l v p
+    pick (no v) = n (subst P (omega arith) p)
+
 -- a number that passes the test
 pub record Passing (a b : ℕ) (test : ℕ → Bool) : Type 0 where
   pub number : ℕ

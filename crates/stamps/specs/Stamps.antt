@@ -3,13 +3,14 @@
 use mathlib.Core.Path.{_≡_}
 use mathlib.Core.Bool.{Bool, false, not, _&&_, _||_}
 use mathlib.Core.List.{List}
-use Prim.Native.Nat.{ℕ, zero, suc, _+_, _-_, _*_, _^_, _≤_, _<_, min}
+use Prim.Native.Nat.{ℕ, zero, suc, _+_, _-_, _*_, _/_, _%_, _^_, _≤_, _<_, min}
 use lib.Dec.{leb, ltb}
 use lib.IntN.{ℤ, pos}
 use lib.ListN.{length, getD, drop}
 use Rattle.numbers.specs.Integers.{up, dn}
 use Rattle.model.specs.declared.PixelRect.{PixelRect}
 use Rattle.model.specs.declared.CollisionBounds.{CollisionBounds}
+use Rattle.model.specs.Lists.{any}
 use Rattle.model.specs.Boxes.{meets, around}
 use Rattle.model.specs.Ground.{walkable}
 use Rattle.grid.specs.Grid.{Differences}
@@ -65,17 +66,33 @@ some a (suc n) test = some a n test || test (a + n)
 abbrev pub among : ℕ → ℕ → (ℕ → Bool) → Bool
 among a b test = some a (b - a) test
 
+-- the rectangle with these sides
+abbrev pub flat : ℕ → ℕ → ℕ → ℕ → PixelRect
+flat l t r b = record { left = pos l; top = pos t; right = pos r; bottom = pos b }
+
 -- the walk cell in column c and row r
 abbrev pub cellAt : ℕ → ℕ → PixelRect
-cellAt c r = record { left = pos (8 * c); top = pos (8 * r); right = pos (8 * c + 8); bottom = pos (8 * r + 8) }
+cellAt c r = flat (8 * c) (8 * r) (8 * c + 8) (8 * r + 8)
 
--- of the cells from column a up to b of row r, an unwalkable one stops the mover
+-- of the cells from column a up to b of row r, some one stops the mover, or some unwalkable one
+abbrev pub runStops : Frame → CollisionBounds → ℕ → ℕ → ℕ → ℕ → ℕ → Bool
+runStops f m r a b x y = among a b (λ c. stop f m (cellAt c r) x y)
+
 abbrev pub rowStops : Frame → CollisionBounds → List ℕ → ℕ → ℕ → ℕ → ℕ → ℕ → ℕ → Bool
 rowStops f m cells width r a b x y = among a b (λ c. not (walkable (getD cells (r * width + c) 0)) && stop f m (cellAt c r) x y)
 
--- r is the first place from at on whose cell is as wanted, or end
-pub record NextCell (cells : List ℕ) (at end : ℕ) (wanted : Bool) (r : ℕ) : Type 0 where
+-- r is the first place from at on whose cell's walkable bit is as wanted, or end
+pub record NextCell (cells : List ℕ) (at end wanted r : ℕ) : Type 0 where
   pub from : at ≤ r
   pub within : r ≤ end
-  pub before : (k : ℕ) → at ≤ k → k < r → walkable (getD cells k 0) ≡ not wanted
-  pub found : r < end → walkable (getD cells r 0) ≡ wanted
+  pub before : (k : ℕ) → at ≤ k → k < r → getD cells k 0 / 16 % 2 ≡ wanted → ⊥
+  pub found : r < end → getD cells r 0 / 16 % 2 ≡ wanted
+
+-- the columns or rows of cells, of so many, that a mover reaches from size centers from start on
+abbrev pub reachOf : ℕ → ℕ → ℕ → ℕ → ℕ → Span
+reachOf start size before after cells =
+    record { from = min ((start - before) / 8) (min ((start + size + after + 7) / 8) cells); to = min ((start + size + after + 7) / 8) cells }
+
+-- some box of a list stops the mover
+abbrev pub stops : Frame → CollisionBounds → List PixelRect → ℕ → ℕ → Bool
+stops f m boxes x y = any (meets (around m (f .left + x) (f .top + y))) boxes

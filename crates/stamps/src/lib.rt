@@ -2,12 +2,16 @@
 // collision boxes. Each blocker is widened by the mover first, and then clipped to the window.
 use model::CollisionBounds;
 ghost use mathlib.Core.Path.{_≡_};
-ghost use Prim.Native.Nat.{_^_, _<_};
+ghost use mathlib.Core.List.{map};
+ghost use Prim.Native.Nat.{_+_, _*_, _^_, _<_, _≤_};
+ghost use lib.ListN.{length};
 ghost use Rattle.model.specs.declared.PixelRect.{PixelRect};
-ghost use Rattle.stamps.specs.Stamps.{Framed, Adds, Carried, clipped, stop};
+ghost use Rattle.stamps.specs.Stamps.{Framed, Adds, Carried, NextCell, clipped, stop, runStops, rowStops, reachOf};
 
 // Coordinates are carried up by this much, so that none that a blocker can have is negative.
 const CARRY: u64 = 4294967296;
+
+const PIXELS_PER_WALK_CELL: u64 = 8;
 
 // The window's corner and its size in centers.
 pub struct Frame {
@@ -75,4 +79,84 @@ pub fn stamp_expanded(grid: &mut [u32], frame: Frame, mover: CollisionBounds, bl
         columns.to,
         rows.to,
     );
+}
+
+// The first place from at on whose cell's walkable bit is as wanted; end where there is none.
+fn next_cell(cells: &[u8], at: usize, end: usize, wanted: u8) -> usize
+    requires { ⌜ (at ≤ end) × (end ≤ length (now cells)) ⌝ }
+    ensures { λ r. ⌜ NextCell (now (cells .entry)) at end wanted r ⌝ }
+{
+    let mut i = at;
+    while i < end {
+        if cells[i] / 16 % 2 == wanted {
+            return i;
+        }
+        i += 1;
+    }
+    i
+}
+
+// Stamps the cells from column from up to to of a row, as one rectangle: what it stops is what one of its cells stops.
+fn stamp_run(
+    grid: &mut [u32],
+    frame: Frame,
+    mover: CollisionBounds,
+    row: usize,
+    from: usize,
+    to: usize,
+)
+    requires { ⌜ Framed frame (now grid) ⌝ }
+    requires { ⌜ (row < 2 ^ 32) × (to < 2 ^ 32) ⌝ }
+    ensures { λ _. ⌜ Adds (frame .width) (frame .height) 1 (runStops frame mover row from to) (now (grid .entry)) (now (grid .exit)) ⌝ }
+{
+    if from >= to {
+        return;
+    }
+    let top = CARRY + PIXELS_PER_WALK_CELL * row as u64;
+    let run = Raised {
+        left: CARRY + PIXELS_PER_WALK_CELL * from as u64,
+        top,
+        right: CARRY + PIXELS_PER_WALK_CELL * to as u64,
+        bottom: top + PIXELS_PER_WALK_CELL,
+    };
+    stamp_expanded(grid, frame, mover, run);
+}
+
+// Stamps the unwalkable cells from column first up to end of a row, run by run.
+fn stamp_row(
+    grid: &mut [u32],
+    frame: Frame,
+    mover: CollisionBounds,
+    cells: &[u8],
+    width: usize,
+    row: usize,
+    first: usize,
+    end: usize,
+)
+    requires { ⌜ Framed frame (now grid) ⌝ }
+    requires { ⌜ (row < 2 ^ 32) × (first ≤ end) × (end ≤ width) × (width < 2 ^ 32) × ((row + 1) * width ≤ length (now cells)) ⌝ }
+    ensures { λ _. ⌜ Adds (frame .width) (frame .height) width (rowStops frame mover (now (cells .entry)) width row first end) (now (grid .entry)) (now (grid .exit)) ⌝ }
+{
+    let start = row * width;
+    let mut column = first;
+    while column < end {
+        let from = next_cell(cells, start + column, start + end, 0) - start;
+        let to = next_cell(cells, start + from, start + end, 1) - start;
+        stamp_run(grid, frame, mover, row, from, to);
+        column = to;
+    }
+}
+
+// The columns or rows of cells, of so many, that the mover reaches from the centers of the window.
+fn reach(start: u64, size: usize, before: u32, after: u32, cells: usize) -> Span
+    requires { ⌜ (start < 2 ^ 62) × (size < 2 ^ 31) ⌝ }
+    ensures { λ r. ⌜ r ≡ reachOf start size before after cells ⌝ }
+{
+    let first = numbers::minus(start, before as u64) / PIXELS_PER_WALK_CELL;
+    let past = (start + size as u64 + after as u64 + 7) / PIXELS_PER_WALK_CELL;
+    let to = numbers::least(past, cells as u64);
+    Span {
+        from: numbers::least(first, to) as usize,
+        to: to as usize,
+    }
 }
