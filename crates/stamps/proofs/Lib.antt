@@ -3,3 +3,4 @@ pub mod Some
 pub mod Adding
 pub mod Clipping
 pub mod Cells
+pub mod Listed
