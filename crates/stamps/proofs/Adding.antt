@@ -15,7 +15,8 @@ use Rattle.numbers.proofs.Places.{one-if, rows-fit}
 use Rattle.model.specs.Areas.{cleared}
 use Rattle.grid.specs.Grid.{within, box, no-box, plus-box, Boxed, Finished}
 use Rattle.grid.proofs.Uses.{blank, box-small}
-use Rattle.stamps.specs.Stamps.{Stamped, Adds, Counted}
+use Rattle.stamps.specs.Stamps.{Stamped, Adds, Counted, among}
+use Rattle.stamps.proofs.Some.{among-none, among-next}
 
 -- a sum is above zero where a part is
 above-sum : (a b : ℕ) → ltb 0 (a + b) ≡ ltb 0 b || ltb 0 a
@@ -70,6 +71,14 @@ module _ {w h : ℕ} where
         });
     rest = A .rest;
   }
+
+  -- a loop over numbers from a on: none yet, and one more
+  pub adds-start : (test : ℕ → ℕ → ℕ → Bool) (a : ℕ) (g : List ℕ) → Adds w h 0 (λ x y. among a a (λ n. test n x y)) g g
+  adds-start test a g = adds-same (omega arith) (λ x y hx hy. sym (among-none (λ n. test n x y) a a (omega arith))) (adds-none g)
+
+  pub adds-next : (test : ℕ → ℕ → ℕ → Bool) (a i : ℕ) {j k : ℕ} {was mid now : List ℕ} → a ≤ i → Adds w h j (λ x y. among a i (λ n. test n x y)) was mid → Adds w h k (test i) mid now
+      → Adds w h (j + k) (λ x y. among a (i + 1) (λ n. test n x y)) was now
+  adds-next test a i l A B = adds-same (omega arith) (λ x y hx hy. among-next (λ n. test n x y) a i l) (adds-then A B)
 
   -- one rectangle within the grid
   pub adds-box : {l t r b : ℕ} {Q : ℕ → ℕ → Bool} {was now : List ℕ} → r ≤ w → b ≤ h → ((x y : ℕ) → x < w → y < h → ltb 0 (box l t r b x y) ≡ Q x y)

@@ -1,6 +1,6 @@
 -- A blocker, widened by the mover and then clipped to the window, covers exactly the window's centers at which the mover meets it: one axis at a time.
 -- Assumes nothing.
-use mathlib.Core.Path.{_≡_, refl}
+use mathlib.Core.Path.{_≡_, refl, _∙_}
 use mathlib.Core.Bool.{Bool, true, false, _&&_}
 use Prim.Native.Nat.{ℕ, _+_, _-_, _*_, _≤_, _<_, min}
 use native.Mathlib.Omega.{arith}
@@ -42,21 +42,22 @@ far z n before start size x e h = by (ltZ (pos (start + x) -ℤ pos before) z) r
     by false q =
         le-ltb x (min (n + before - (4294967296 + start)) size) (omega (arith, ltZ-false low z q, sub-nat (pos (start + x)) (pos before)))
 
--- a place is covered where both axes hold it, in the order of `meets`
-pub above-box : (a b c d : Bool) → ltb 0 (one-if (a && b) * one-if (c && d)) ≡ b && a && d && c
-above-box true true true true = refl
-above-box true true true false = refl
-above-box true true false true = refl
-above-box true true false false = refl
-above-box true false true true = refl
-above-box true false true false = refl
-above-box true false false d = refl
-above-box false true true true = refl
-above-box false true true false = refl
-above-box false true false d = refl
-above-box false false true true = refl
-above-box false false true false = refl
-above-box false false false d = refl
+-- a place is covered where both axes hold it
+pub above-both : (a b : Bool) → ltb 0 (one-if a * one-if b) ≡ a && b
+above-both true true = refl
+above-both true false = refl
+above-both false true = refl
+above-both false false = refl
+
+-- the sides in the order of `meets`
+in-order : (a b c d : Bool) → (a && b) && (c && d) ≡ b && a && d && c
+in-order true true true true = refl
+in-order true true true false = refl
+in-order true true false true = refl
+in-order true true false false = refl
+in-order true false c d = refl
+in-order false true c d = refl
+in-order false false c d = refl
 
 module _ (f : Frame) (m : CollisionBounds) (b : PixelRect) (r : Raised) (k : Carried b r) where
   abbrev columns : Span
@@ -74,5 +75,7 @@ module _ (f : Frame) (m : CollisionBounds) (b : PixelRect) (r : Raised) (k : Car
         near (b .top) (r .top) (m .bottom) (f .top) y (k .top),
         far (b .bottom) (r .bottom) (m .top) (f .top) (f .height) y (k .bottom) hy,
       )
-      (above-box (ltZ (b .left) (pos (f .left + x + m .right + 1))) (ltZ (pos (f .left + x) -ℤ pos (m .left)) (b .right))
+      (above-both (ltZ (b .left) (pos (f .left + x + m .right + 1)) && ltZ (pos (f .left + x) -ℤ pos (m .left)) (b .right))
+      (ltZ (b .top) (pos (f .top + y + m .bottom + 1)) && ltZ (pos (f .top + y) -ℤ pos (m .top)) (b .bottom))
+      ∙ in-order (ltZ (b .left) (pos (f .left + x + m .right + 1))) (ltZ (pos (f .left + x) -ℤ pos (m .left)) (b .right))
       (ltZ (b .top) (pos (f .top + y + m .bottom + 1))) (ltZ (pos (f .top + y) -ℤ pos (m .top)) (b .bottom)))

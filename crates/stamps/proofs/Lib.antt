@@ -4,3 +4,5 @@ pub mod Adding
 pub mod Clipping
 pub mod Cells
 pub mod Listed
+pub mod Terrain
+pub mod Edges

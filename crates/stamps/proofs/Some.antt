@@ -1,5 +1,5 @@
 -- Laws of `some` and `among`: some number of a range passes a test. Assumes nothing.
-use mathlib.Core.Path.{_≡_, refl, ap, subst, sym}
+use mathlib.Core.Path.{_≡_, refl, ap, subst, sym, _∙_}
 use mathlib.Core.Bool.{Bool, true, false, _||_}
 use mathlib.Core.Logic.{_⊎_, inl, inr}
 use mathlib.Core.List.{List, [], _∷_}
@@ -93,9 +93,13 @@ module _ (test : ℕ → Bool) where
   among-none a b h = let e : b - a ≡ 0 = omega arith in rw e refl
 
   -- a range of one
-  pub among-one : (a : ℕ) → among a (a + 1) test ≡ test a
+  among-one : (a : ℕ) → among a (a + 1) test ≡ test a
   unfolding some
   among-one a = let e : a + 1 - a ≡ 1 = omega arith in let z : a + 0 ≡ a = omega arith in rw (e, z) refl
+
+  -- one number more
+  pub among-next : (a i : ℕ) → a ≤ i → among a i test || test i ≡ among a (i + 1) test
+  among-next a i h = sym (among-join a i (i + 1) h (omega arith) ∙ ap (λ (t : Bool). among a i test || t) (among-one i))
 
 -- two tests that agree over a range
 pub among-same : (f g : ℕ → Bool) (a b : ℕ) → ((k : ℕ) → a ≤ k → k < b → f k ≡ g k) → among a b f ≡ among a b g

@@ -2,7 +2,7 @@
 -- Where P speaks of the window's columns and rows, a stamped grid covers exactly the places where P holds. Assumes nothing.
 use mathlib.Core.Path.{_≡_}
 use mathlib.Core.Bool.{Bool, false, not, _&&_, _||_}
-use mathlib.Core.List.{List}
+use mathlib.Core.List.{List, map}
 use Prim.Native.Nat.{ℕ, zero, suc, _+_, _-_, _*_, _/_, _%_, _^_, _≤_, _<_, min}
 use lib.Dec.{leb, ltb}
 use lib.IntN.{ℤ, pos}
@@ -10,8 +10,8 @@ use lib.ListN.{length, getD, drop}
 use Rattle.numbers.specs.Integers.{up, dn}
 use Rattle.model.specs.declared.PixelRect.{PixelRect}
 use Rattle.model.specs.declared.CollisionBounds.{CollisionBounds}
-use Rattle.model.specs.Lists.{any}
-use Rattle.model.specs.Boxes.{meets, around}
+use Rattle.model.specs.Lists.{any, places}
+use Rattle.model.specs.Boxes.{meets, around, inMap, cellBox}
 use Rattle.model.specs.Ground.{walkable}
 use Rattle.grid.specs.Grid.{Differences}
 use Rattle.stamps.specs.declared.Frame.{Frame}
@@ -96,3 +96,25 @@ reachOf start size before after cells =
 -- some box of a list stops the mover
 abbrev pub stops : Frame → CollisionBounds → List PixelRect → ℕ → ℕ → Bool
 stops f m boxes x y = any (meets (around m (f .left + x) (f .top + y))) boxes
+
+-- the boxes of the unwalkable cells
+abbrev pub unwalkable : ℕ → List ℕ → List PixelRect
+unwalkable width cells = map (cellBox width) (places (λ i c. not (walkable c)) cells)
+
+-- r is b carried up, and stays below 2 ^ 62
+pub record Lifted (b : PixelRect) (r : Raised) : Type 0 where
+  pub carried : Carried b r
+  pub right : r .right < 2 ^ 62
+  pub bottom : r .bottom < 2 ^ 62
+
+-- the centers of an axis, of size from start on, at which a mover lies within so many cells
+abbrev pub innerOf : ℕ → ℕ → ℕ → ℕ → ℕ → Span
+innerOf start size before after cells = record { from = min (before - start) size; to = 8 * cells - (after + start) }
+
+-- a place lies outside the columns or the rows
+abbrev pub outside : Span → Span → ℕ → ℕ → Bool
+outside columns rows x y = ltb x (columns .from) || leb (columns .to) x || ltb y (rows .from) || leb (rows .to) y
+
+-- the mover's box leaves the map
+abbrev pub leaves : Frame → CollisionBounds → ℕ → ℕ → ℕ → ℕ → Bool
+leaves f m width height x y = not (inMap width height (around m (f .left + x) (f .top + y)))
