@@ -1,1 +1,141 @@
-// Marks.
+// Which centers of the window are blocked, before the plan and after it: a mark for each. Blockers are counted in difference grids, and a center is
+// blocked where a count is above zero.
+use model::CollisionBounds;
+use model::PixelRect;
+use model::Plan;
+use stamps::Frame;
+ghost use mathlib.Core.Path.{_≡_};
+ghost use mathlib.Core.Bool.{_||_, true};
+ghost use mathlib.Core.List.{map};
+ghost use Prim.Native.Nat.{_+_, _*_, _<_, _≤_};
+ghost use lib.Dec.{ltb};
+ghost use lib.IntN.{pos};
+ghost use lib.Signed.{leZ};
+ghost use lib.ListN.{length};
+ghost use Rattle.model.specs.Boxes.{collisionBox};
+ghost use Rattle.model.specs.Ground.{before, built};
+ghost use Rattle.stamps.specs.Stamps.{Framed, Adds, Counted, stops};
+ghost use Rattle.marks.specs.Marks.{markOf, blockedAt, blocked, frameOf};
+ghost use Rattle.marks.specs.Passes.{ground, Row, Part};
+
+// The mark of a center that so many blockers of the ground and of the plan cover.
+fn mark_of(ground: u32, plan: u32) -> u8
+    ensures { λ r. ⌜ r ≡ markOf (ltb 0 ground || ltb 0 plan) ⌝ }
+{
+    if ground > 0 {
+        1
+    } else if plan > 0 {
+        1
+    } else {
+        0
+    }
+}
+
+// Whether the mark at a place says that the center is blocked.
+pub fn is_blocked(marks: &[u8], place: usize) -> bool
+    requires { ⌜ place < length (now marks) ⌝ }
+    ensures { λ r. ⌜ r ≡ blockedAt (now (marks .entry)) place ⌝ }
+{
+    marks[place] != 0
+}
+
+// Marks n centers of a row, from the counts of the ground and of the plan.
+fn mark_row(marks: &mut [u8], to: usize, ground: &[u32], plan: &[u32], from: usize, n: usize)
+    requires { ⌜ (to + n ≤ length (now marks)) × (from + n ≤ length (now ground)) × (from + n ≤ length (now plan)) ⌝ }
+    ensures { λ _. ⌜ Row to from n (now (ground .entry)) (now (plan .entry)) (now (marks .entry)) (now (marks .exit)) ⌝ }
+{
+    let mut i = 0;
+    while i < n {
+        let mark = mark_of(ground[from + i], plan[from + i]);
+        marks[to + i] = mark;
+        i += 1;
+    }
+}
+
+// Marks the centers of the window, row by row, from place at on. The grids of counts have a column more than the window.
+fn blocked_centers(
+    marks: &mut [u8],
+    at: usize,
+    ground: &[u32],
+    plan: &[u32],
+    width: usize,
+    height: usize,
+)
+    requires { ⌜ (at + height * width ≤ length (now marks)) × ((height + 1) * (width + 1) ≤ length (now ground)) × ((height + 1) * (width + 1) ≤ length (now plan)) ⌝ }
+    ensures { λ _. ⌜ Part at width height (now (ground .entry)) (now (plan .entry)) (now (marks .entry)) (now (marks .exit)) ⌝ }
+{
+    let mut y = 0;
+    while y < height {
+        mark_row(marks, at + y * width, ground, plan, y * (width + 1), width);
+        y += 1;
+    }
+}
+
+// The window's corner and its size.
+fn frame_of(window: PixelRect) -> Frame
+    requires { ⌜ (leZ (pos 0) (window .left) ≡ true) × (leZ (pos 0) (window .top) ≡ true) ⌝ }
+    requires { ⌜ (leZ (window .left) (window .right) ≡ true) × (leZ (window .top) (window .bottom) ≡ true) ⌝ }
+    ensures { λ r. ⌜ r ≡ frameOf window ⌝ }
+{
+    let left = numbers::biased(window.left);
+    let top = numbers::biased(window.top);
+    Frame {
+        left: left - 2147483648,
+        top: top - 2147483648,
+        width: (numbers::biased(window.right) - left) as usize,
+        height: (numbers::biased(window.bottom) - top) as usize,
+    }
+}
+
+// Stamps what stops a mover before the plan.
+fn stamp_ground(
+    grid: &mut [u32],
+    frame: Frame,
+    mover: CollisionBounds,
+    cells: &[u8],
+    words: &[i32],
+    width: usize,
+    height: usize,
+)
+    requires { ⌜ Framed frame (now grid) ⌝ }
+    requires { ⌜ (width ≤ 1024) × (height ≤ 1024) × (length (now cells) ≡ width * height) × (length (now words) ≤ 32768) ⌝ }
+    ensures { λ _. ⌜ Adds (frame .width) (frame .height) 1056772 (blocked (ground width height (now (cells .entry)) (now (words .entry))) frame mover (before (ground width height (now (cells .entry)) (now (words .entry))))) (now (grid .entry)) (now (grid .exit)) ⌝ }
+{
+    stamps::stamp_map_edge(grid, frame, mover, width, height);
+    stamps::stamp_terrain_blockers(grid, frame, mover, cells, width, height);
+    stamps::stamp_obstacles(grid, frame, mover, words);
+}
+
+// Counts what stops a mover before the plan.
+pub fn count_ground(
+    grid: &mut [u32],
+    frame: Frame,
+    mover: CollisionBounds,
+    cells: &[u8],
+    words: &[i32],
+    width: usize,
+    height: usize,
+)
+    requires { ⌜ Framed frame (now grid) ⌝ }
+    requires { ⌜ (width ≤ 1024) × (height ≤ 1024) × (length (now cells) ≡ width * height) × (length (now words) ≤ 32768) ⌝ }
+    ensures { λ _. ⌜ Counted (frame .width) (frame .height) (blocked (ground width height (now (cells .entry)) (now (words .entry))) frame mover (before (ground width height (now (cells .entry)) (now (words .entry))))) (now (grid .entry)) (now (grid .exit)) ⌝ }
+{
+    let stride = frame.width + 1;
+    let rows = frame.height + 1;
+    grid::clear(grid, rows * stride);
+    stamp_ground(grid, frame, mover, cells, words, width, height);
+    grid::finish(grid, stride, rows);
+}
+
+// Counts the plan's collision boxes.
+pub fn count_plan(grid: &mut [u32], frame: Frame, mover: CollisionBounds, plan: Plan)
+    requires { ⌜ Framed frame (now grid) ⌝ }
+    requires { ⌜ plan .count ≤ 32 ⌝ }
+    ensures { λ _. ⌜ Counted (frame .width) (frame .height) (stops frame mover (map collisionBox (built plan))) (now (grid .entry)) (now (grid .exit)) ⌝ }
+{
+    let stride = frame.width + 1;
+    let rows = frame.height + 1;
+    grid::clear(grid, rows * stride);
+    stamps::stamp_plan(grid, frame, mover, plan);
+    grid::finish(grid, stride, rows);
+}
