@@ -48,3 +48,9 @@ module _ (ground plan : List ℕ) where
       rest : (k : ℕ) → (k < at) ⊎ (at + (y + 1) * w ≤ k) → getD now k 0 ≡ getD was k 0
       rest k (inl h) = r .rest k (inl (omega arith)) ∙ p .rest k (inl h)
       rest k (inr h) = r .rest k (inr (omega arith)) ∙ p .rest k (inr (omega arith))
+
+-- the first part stays when the next one is filled
+pub first-stays : (w h : ℕ) {base plan mid now : List ℕ} {was : List ℕ} → Part 0 w h base base was mid → Part (h * w) w h base plan mid now
+    → (x y : ℕ) → x < w → y < h → getD now (y * w + x) 0 ≡ markOf (covered base base (y * (w + 1) + x))
+first-stays w h {base} {plan} {mid} {now} p q x y hx hy =
+    q .rest (y * w + x) (inl (row-below w x y h hx hy)) ∙ ap (λ (i : ℕ). getD mid i 0) (omega arith) ∙ p .mark x y hx hy

@@ -16,6 +16,7 @@ use Rattle.model.specs.Boxes.{inMap, widthOf, heightOf}
 use Rattle.model.specs.Ground.{Ground, before, after, built, free, passable}
 use Rattle.model.specs.Refusal.{hollow, cellCap, obstacleCap, buildingCap}
 use Rattle.model.specs.Areas.{differenceRoom, markRoom, centerRoom, cleared}
+use Rattle.model.specs.RouteTest.{TestAreas}
 use Rattle.stamps.specs.declared.Frame.{Frame}
 
 -- the mark of a center: 1 where it is blocked, else 0
@@ -33,6 +34,12 @@ Unmarked marks w h x y = (x < w) × (y < h) × (getD marks (y * w + x) 0 ≡ 0)
 -- the marks of the window of w by h centers at (l, t) say what f says of the map's centers
 pub record Marked (f : ℕ → ℕ → Bool) (l t w h : ℕ) (marks : List ℕ) : Type 0 where
   pub mark : (x y : ℕ) → x < w → y < h → getD marks (y * w + x) 0 ≡ markOf (not (f (l + x) (t + y)))
+
+abbrev pub ground : ℕ → ℕ → List ℕ → List ℤ → Ground
+ground width height cells words = record { width = width; height = height; cells = cells; words = words }
+
+abbrev pub areas : List ℕ → List ℕ → List ℕ → TestAreas
+areas base plan marks = record { base = base; plan = plan; marks = marks }
 
 -- the window's corner and its size
 abbrev pub frameOf : PixelRect → Frame
@@ -52,6 +59,12 @@ pub record Shown (g : Ground) (window : PixelRect) (m : CollisionBounds) (plan :
   pub planned : Shows g window m (after g (built plan)) (take (centerRoom window) (drop (centerRoom window) now))
   pub rest : drop (markRoom window) now ≡ drop (markRoom window) was
 
+-- What marking the centers of a window does to the areas 3 to 5: the marks are shown, and the counts are zero up to their number.
+pub record Centers (g : Ground) (window : PixelRect) (m : CollisionBounds) (p : Plan) (was now : TestAreas) : Type 0 where
+  pub marks : Shown g window m p (was .marks) (now .marks)
+  pub base : now .base ≡ cleared (differenceRoom window) (was .base)
+  pub plan : now .plan ≡ cleared (differenceRoom window) (was .plan)
+
 -- What the checks before it have shown: the map, the obstacles and the plan are within the caps, and the window is one of the map.
 pub record Ready (g : Ground) (window : PixelRect) (plan : Plan) : Type 0 where
   pub wide : g .width ≤ cellCap
@@ -63,7 +76,7 @@ pub record Ready (g : Ground) (window : PixelRect) (plan : Plan) : Type 0 where
   pub inside : inMap (g .width) (g .height) window ≡ true
 
 -- The areas 3 to 5 have room.
-pub record Roomy (window : PixelRect) (area3 area4 area5 : List ℕ) : Type 0 where
-  pub base : differenceRoom window ≤ length area3
-  pub plan : differenceRoom window ≤ length area4
-  pub marks : markRoom window ≤ length area5
+pub record Roomy (window : PixelRect) (was : TestAreas) : Type 0 where
+  pub base : differenceRoom window ≤ length (was .base)
+  pub plan : differenceRoom window ≤ length (was .plan)
+  pub marks : markRoom window ≤ length (was .marks)

@@ -5,13 +5,10 @@ use mathlib.Core.List.{List}
 use mathlib.Core.Logic.{_⊎_}
 use Prim.Native.Nat.{ℕ, _+_, _*_, _≤_, _<_}
 use lib.Dec.{ltb}
-use lib.IntN.{ℤ}
-use lib.ListN.{getD}
-use Rattle.model.specs.Ground.{Ground}
+use lib.ListN.{getD, drop}
+use Rattle.model.specs.Areas.{cleared}
+use Rattle.model.specs.RouteTest.{TestAreas}
 use Rattle.marks.specs.Marks.{markOf}
-
-abbrev pub ground : ℕ → ℕ → List ℕ → List ℤ → Ground
-ground width height cells words = record { width = width; height = height; cells = cells; words = words }
 
 -- something covers the place i of the counts
 abbrev pub covered : List ℕ → List ℕ → ℕ → Bool
@@ -26,3 +23,11 @@ pub record Row (to from n : ℕ) (ground plan was now : List ℕ) : Type 0 where
 pub record Part (at w rows : ℕ) (ground plan was now : List ℕ) : Type 0 where
   pub mark : (x y : ℕ) → x < w → y < rows → getD now (at + (y * w + x)) 0 ≡ markOf (covered ground plan (y * (w + 1) + x))
   pub rest : (k : ℕ) → (k < at) ⊎ (at + rows * w ≤ k) → getD now k 0 ≡ getD was k 0
+
+-- Both parts of the marks of a window of w by h centers, by the ground's counts alone and by both. The counts are zero afterwards.
+pub record Settled (w h : ℕ) (was now : TestAreas) : Type 0 where
+  pub baseline : (x y : ℕ) → x < w → y < h → getD (now .marks) (y * w + x) 0 ≡ markOf (covered (was .base) (was .base) (y * (w + 1) + x))
+  pub planned : (x y : ℕ) → x < w → y < h → getD (now .marks) (h * w + (y * w + x)) 0 ≡ markOf (covered (was .base) (was .plan) (y * (w + 1) + x))
+  pub rest : drop (h * w + h * w) (now .marks) ≡ drop (h * w + h * w) (was .marks)
+  pub base : now .base ≡ cleared ((h + 1) * (w + 1)) (was .base)
+  pub plan : now .plan ≡ cleared ((h + 1) * (w + 1)) (was .plan)

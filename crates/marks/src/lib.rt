@@ -15,8 +15,8 @@ ghost use lib.ListN.{length};
 ghost use Rattle.model.specs.Boxes.{collisionBox};
 ghost use Rattle.model.specs.Ground.{before, built};
 ghost use Rattle.stamps.specs.Stamps.{Framed, Adds, Counted, stops};
-ghost use Rattle.marks.specs.Marks.{markOf, blockedAt, blocked, frameOf};
-ghost use Rattle.marks.specs.Passes.{ground, Row, Part};
+ghost use Rattle.marks.specs.Marks.{Centers, Ready, Roomy, areas, blocked, blockedAt, frameOf, ground, markOf};
+ghost use Rattle.marks.specs.Passes.{Row, Part, Settled};
 
 // The mark of a center that so many blockers of the ground and of the plan cover.
 fn mark_of(ground: u32, plan: u32) -> u8
@@ -138,4 +138,49 @@ pub fn count_plan(grid: &mut [u32], frame: Frame, mover: CollisionBounds, plan: 
     grid::clear(grid, rows * stride);
     stamps::stamp_plan(grid, frame, mover, plan);
     grid::finish(grid, stride, rows);
+}
+
+// Marks the window's centers from finished counts, those before the plan first and those after it behind them, and clears the counts.
+fn settle(base: &mut [u32], planned: &mut [u32], marks: &mut [u8], width: usize, height: usize)
+    requires { ⌜ (height * width + height * width ≤ length (now marks)) × ((height + 1) * (width + 1) ≤ length (now base)) × ((height + 1) * (width + 1) ≤ length (now planned)) ⌝ }
+    ensures { λ _. ⌜ Settled width height (areas (now (base .entry)) (now (planned .entry)) (now (marks .entry))) (areas (now (base .exit)) (now (planned .exit)) (now (marks .exit))) ⌝ }
+{
+    let n = (height + 1) * (width + 1);
+    blocked_centers(marks, 0, base, base, width, height);
+    blocked_centers(marks, height * width, base, planned, width, height);
+    grid::clear(base, n);
+    grid::clear(planned, n);
+}
+
+// Marks the window's centers, before the plan and after it, as the definitions say which are free.
+pub fn mark_centers(
+    width: u32,
+    height: u32,
+    cells: &[u8],
+    words: &[i32],
+    window: PixelRect,
+    mover: CollisionBounds,
+    plan: Plan,
+    base: &mut [u32],
+    planned: &mut [u32],
+    marks: &mut [u8],
+)
+    requires { ⌜ Ready (ground width height (now cells) (now words)) window plan ⌝ }
+    requires { ⌜ Roomy window (areas (now base) (now planned) (now marks)) ⌝ }
+    ensures { λ _. ⌜ Centers (ground width height (now (cells .entry)) (now (words .entry))) window mover plan (areas (now (base .entry)) (now (planned .entry)) (now (marks .entry))) (areas (now (base .exit)) (now (planned .exit)) (now (marks .exit))) ⌝ }
+{
+    let frame = frame_of(window);
+    let w = frame.width;
+    let h = frame.height;
+    count_ground(
+        base,
+        frame,
+        mover,
+        cells,
+        words,
+        width as usize,
+        height as usize,
+    );
+    count_plan(planned, frame, mover, plan);
+    settle(base, planned, marks, w, h);
 }

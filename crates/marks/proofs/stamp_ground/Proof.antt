@@ -1,6 +1,6 @@
 use native.Mathlib.Omega.{arith}
 use Rattle.stamps.proofs.Adding.{adds-then, adds-same}
-use Rattle.marks.specs.Passes.{ground}
+use Rattle.marks.specs.Marks.{ground}
 use Rattle.marks.proofs.Blocking.{blocked-before}
 use borrow.Author.Needs.{needs}
 use Rattle.marks.proofs.stamp_ground.Statement.{statement}
