@@ -6,7 +6,6 @@ use mathlib.Core.List.{List, map}
 use Prim.Native.Nat.{ℕ, _+_}
 use Rattle.model.specs.declared.CollisionBounds.{CollisionBounds}
 use Rattle.model.specs.declared.WallBuilding.{WallBuilding}
-use Rattle.model.specs.Lists.{any}
 use Rattle.model.specs.Boxes.{meets, around, inMap, collisionBox}
 use Rattle.model.specs.Ground.{Ground, obstacles, before, after, free}
 use Rattle.model.proofs.Reading.{any-append, free-append}

@@ -1,7 +1,7 @@
 -- The marks and the definitions. `shown`: counts that are above zero where a blocker stops the mover leave marks that say which centers are free.
 -- `free-exactly`: what a mark says of its center. `marks-agree`: the marks have the routes of the definitions. Assumes nothing.
 use mathlib.Core.Path.{_≡_, refl, sym, ap, subst, _∙_}
-use mathlib.Core.Bool.{Bool, true, false, not, _&&_, _||_}
+use mathlib.Core.Bool.{Bool, true, false, not, _||_}
 use mathlib.Core.List.{List, map, _++_}
 use mathlib.Core.Logic.{_↔_}
 use Prim.Native.Nat.{ℕ, _+_, _-_, _*_, _≤_, _<_}
@@ -9,9 +9,9 @@ use native.Mathlib.Nat.{mul-comm}
 use native.Mathlib.Omega.{arith}
 use lib.Dec.{T, ltb}
 use lib.IntN.{pos}
-use lib.ListN.{length, getD, take, drop, replicate}
+use lib.ListN.{length, getD, drop, replicate}
 use lib.Seq.{getD-take, getD-drop}
-use Rattle.numbers.proofs.Places.{one-if, row-below}
+use Rattle.numbers.proofs.Places.{row-below}
 use Rattle.numbers.proofs.Tests.{left-of}
 use Rattle.model.specs.declared.PixelRect.{PixelRect}
 use Rattle.model.specs.declared.CollisionBounds.{CollisionBounds}
@@ -21,7 +21,6 @@ use Rattle.model.specs.Ground.{Ground, before, after, built, free, passable}
 use Rattle.model.specs.Areas.{cleared}
 use Rattle.model.specs.RouteTest.{TestAreas}
 use Rattle.model.proofs.Shifted.{Agree}
-use Rattle.stamps.specs.declared.Frame.{Frame}
 use Rattle.stamps.specs.Stamps.{Framed, Counted, stops}
 use Rattle.marks.specs.Marks.{markOf, Unmarked, Shows, Shown, Centers, Ready, areas, blocked, frameOf}
 use Rattle.marks.specs.Passes.{covered, Settled}

@@ -1,11 +1,11 @@
 -- A window of the map, by the naturals of its corner and its size. Assumes nothing.
 use mathlib.Core.Path.{_≡_, refl, sym, ap, subst, _∙_}
 use mathlib.Core.Bool.{Bool, true, false, _&&_, _||_}
-use Prim.Native.Nat.{ℕ, _+_, _-_, _*_, _≤_, _<_}
+use Prim.Native.Nat.{ℕ, _+_, _*_, _≤_, _<_}
 use native.Mathlib.Omega.{arith}
 use lib.Dec.{T, leb, ltb, leb→le, ltb→lt}
-use lib.IntN.{ℤ, pos, natAbs, _-ℤ_}
-use lib.Signed.{leZ, ltZ}
+use lib.IntN.{pos, natAbs, _-ℤ_}
+use lib.Signed.{leZ}
 use borrow.Author.Tests.{lt-ltb, le-leb}
 use Rattle.numbers.proofs.Integers.{≡-nat, nat-≡, leZ-true, leZ-false, le-leZ, sub-nat, abs-nat, apart}
 use Rattle.numbers.proofs.Tests.{left-of, right-of, is-true}

@@ -1,19 +1,19 @@
 -- What stamps add to a grid, one after the other: laws of `Adds`. Assumes nothing.
 use mathlib.Core.Path.{_≡_, refl, sym, ap, _∙_}
-use mathlib.Core.Bool.{Bool, true, false, _&&_, _||_}
+use mathlib.Core.Bool.{Bool, true, false, _||_}
 use mathlib.Core.List.{List, _++_}
-use Prim.Native.Nat.{ℕ, zero, suc, _+_, _*_, _%_, _^_, _≤_, _<_}
+use Prim.Native.Nat.{ℕ, _+_, _*_, _^_, _≤_, _<_}
 use native.Mathlib.Nat.{mod-eq-of-lt}
 use native.Mathlib.Omega.{arith}
 use native.Mathlib.Decide.{decLt}
-use borrow.Author.Tests.{lt-ltb, le-ltb}
-use lib.Dec.{leb, ltb}
-use lib.ListN.{length, getD, drop, replicate, length-replicate}
+use lib.Dec.{ltb}
+use lib.ListN.{drop, replicate, length-replicate}
 use lib.Seq.{drop-at}
+use borrow.Author.Tests.{lt-ltb, le-ltb}
 use Rattle.numbers.proofs.Tests.{or-assoc}
-use Rattle.numbers.proofs.Places.{one-if, rows-fit}
+use Rattle.numbers.proofs.Places.{rows-fit}
 use Rattle.model.specs.Areas.{cleared}
-use Rattle.grid.specs.Grid.{within, box, no-box, plus-box, Boxed, Finished}
+use Rattle.grid.specs.Grid.{box, no-box, plus-box, Boxed, Finished}
 use Rattle.grid.proofs.Uses.{blank, box-small}
 use Rattle.stamps.specs.Stamps.{Stamped, Adds, Counted, among}
 use Rattle.stamps.proofs.Some.{among-none, among-next}

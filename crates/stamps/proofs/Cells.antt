@@ -1,14 +1,14 @@
 -- Unwalkable cells: a run of cells stops a mover where one of them does, and cells that no mover in the window reaches stop none. Assumes nothing.
-use mathlib.Core.Path.{_≡_, refl, sym, ap, subst, _∙_}
+use mathlib.Core.Path.{_≡_, sym, ap, subst, _∙_}
 use mathlib.Core.Bool.{Bool, true, false, not, _&&_, _||_}
 use mathlib.Core.List.{List}
-use Prim.Native.Nat.{ℕ, _+_, _-_, _*_, _/_, _%_, _≤_, _<_, min}
+use Prim.Native.Nat.{ℕ, _+_, _-_, _*_, _/_, _%_, _≤_, _<_}
 use native.Mathlib.Omega.{arith}
 use native.Mathlib.Decide.{decLt}
-use lib.Dec.{T, eqb}
+use lib.Dec.{T}
 use lib.IntN.{ℤ, pos, _-ℤ_}
 use lib.ListN.{getD}
-use lib.Signed.{ltZ, _<ℤ_}
+use lib.Signed.{ltZ}
 use borrow.Author.Tests.{eq-eqb, ne-eqb}
 use Rattle.numbers.specs.Integers.{up, dn}
 use Rattle.numbers.proofs.Integers.{<-nat, nat-<, sub-nat}
@@ -18,7 +18,7 @@ use Rattle.model.specs.Boxes.{meets, around}
 use Rattle.model.specs.Ground.{walkable}
 use Rattle.stamps.specs.declared.Frame.{Frame}
 use Rattle.stamps.specs.Stamps.{stop, among, flat, cellAt, runStops, rowStops, NextCell}
-use Rattle.stamps.proofs.Some.{Passing, both-ways, passing, passed, among-join, among-none, among-same}
+use Rattle.stamps.proofs.Some.{Passing, both-ways, passing, passed, among-join, among-same}
 
 -- the mover's box at (x, y) meets the rectangle from column l up to r and row t up to b
 pub record Reaches (m : CollisionBounds) (x y l t r b : ℕ) : Type 0 where

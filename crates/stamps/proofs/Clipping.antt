@@ -2,7 +2,7 @@
 -- Assumes nothing.
 use mathlib.Core.Path.{_≡_, refl, _∙_}
 use mathlib.Core.Bool.{Bool, true, false, _&&_}
-use Prim.Native.Nat.{ℕ, _+_, _-_, _*_, _≤_, _<_, min}
+use Prim.Native.Nat.{ℕ, _+_, _-_, _*_, _<_, min}
 use native.Mathlib.Omega.{arith}
 use lib.Dec.{leb, ltb}
 use lib.IntN.{ℤ, pos, _-ℤ_}
@@ -13,7 +13,7 @@ use Rattle.numbers.proofs.Integers.{sub-nat, ltZ-true, ltZ-false}
 use Rattle.numbers.proofs.Places.{one-if}
 use Rattle.model.specs.declared.PixelRect.{PixelRect}
 use Rattle.model.specs.declared.CollisionBounds.{CollisionBounds}
-use Rattle.model.specs.Boxes.{meets, around}
+use Rattle.model.specs.Boxes.{meets}
 use Rattle.grid.specs.Grid.{within, box}
 use Rattle.stamps.specs.declared.Frame.{Frame}
 use Rattle.stamps.specs.declared.Raised.{Raised}

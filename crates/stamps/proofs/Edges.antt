@@ -1,16 +1,15 @@
 -- The map's edge: a mover's box leaves the map exactly outside the inner columns and rows, and four rectangles cover what lies outside them. Assumes nothing.
 use mathlib.Core.Path.{_≡_, refl, _∙_}
 use mathlib.Core.Bool.{Bool, true, false, not, _&&_, _||_}
-use Prim.Native.Nat.{ℕ, _+_, _-_, _*_, _≤_, _<_, min}
+use Prim.Native.Nat.{ℕ, _+_, _-_, _*_, _<_, min}
 use native.Mathlib.Omega.{arith}
 use lib.Dec.{leb, ltb}
 use lib.IntN.{pos, _-ℤ_}
 use lib.Signed.{leZ}
 use borrow.Author.Tests.{lt-ltb, le-ltb, le-leb, lt-leb}
 use Rattle.numbers.proofs.Integers.{sub-nat, leZ-true, leZ-false}
-use Rattle.numbers.proofs.Places.{one-if}
 use Rattle.model.specs.declared.CollisionBounds.{CollisionBounds}
-use Rattle.model.specs.Boxes.{around, inMap}
+use Rattle.model.specs.Boxes.{inMap}
 use Rattle.grid.specs.Grid.{within, box}
 use Rattle.stamps.specs.declared.Frame.{Frame}
 use Rattle.stamps.specs.Stamps.{innerOf, outside, leaves}

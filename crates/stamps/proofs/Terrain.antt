@@ -1,5 +1,5 @@
 -- The unwalkable cells within reach of the window stop the mover where any unwalkable cell of the map does. Assumes nothing.
-use mathlib.Core.Path.{_≡_, refl, sym, ap, subst, _∙_}
+use mathlib.Core.Path.{_≡_, sym, ap, subst, _∙_}
 use mathlib.Core.Bool.{Bool, not, _&&_}
 use mathlib.Core.List.{List, map}
 use Prim.Native.Nat.{ℕ, _+_, _*_, _/_, _%_, _≤_, _<_}
@@ -9,7 +9,7 @@ use native.Mathlib.Decide.{decLt}
 use lib.Dec.{T}
 use lib.ListN.{length, getD}
 use Rattle.numbers.proofs.Places.{row-below, one-place}
-use Rattle.numbers.proofs.Tests.{left-of, right-of, both}
+use Rattle.numbers.proofs.Tests.{right-of}
 use Rattle.model.specs.declared.CollisionBounds.{CollisionBounds}
 use Rattle.model.specs.Lists.{places}
 use Rattle.model.specs.Boxes.{meets, around, cellBox}
@@ -18,7 +18,7 @@ use Rattle.stamps.specs.declared.Frame.{Frame}
 use Rattle.stamps.specs.declared.Span.{Span}
 use Rattle.stamps.specs.Stamps.{stop, stops, among, cellAt, rowStops, reachOf}
 use Rattle.stamps.proofs.Some.{Passing, both-ways, passing, passed}
-use Rattle.stamps.proofs.Cells.{Reaches, reaches}
+use Rattle.stamps.proofs.Cells.{reaches}
 use Rattle.stamps.proofs.Listed.{any-map, any-places}
 
 -- column and row of a cell

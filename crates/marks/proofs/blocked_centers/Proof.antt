@@ -1,16 +1,14 @@
+-- `marks::blocked_centers` meets its contract. The invariant: the first y rows are marked. Assumes nothing.
 use mathlib.Core.Path.{_≡_, refl, _∙_}
 use Prim.Native.Nat.{_+_, _*_, _-_, _≤_}
 use native.Mathlib.Omega.{arith}
+use lib.ListN.{length}
 use borrow.Author.Needs.{needs}
-use lib.ListN.{length, length-set}
-use Rattle.numbers.proofs.Places.{row-below, rows-fit}
+use Rattle.numbers.proofs.Places.{rows-fit}
 use Rattle.marks.specs.Passes.{Part}
 use Rattle.marks.proofs.Filling.{part-none, part-more}
 use Rattle.marks.proofs.blocked_centers.Statement.{statement}
 use Rattle.marks.proofs.blocked_centers.Tie as tie
-use Rattle.marks.proofs.blocked_centers.Reads as reads
-use Rattle.marks.proofs.blocked_centers.Lts as lts
-use Rattle.marks.proofs.mark_row.Reads as mark-row-reads
 
 abbrev Inv-loop : tie.InvT-loop
 Inv-loop marks₀ at ground plan width height y₀ marks y =
@@ -19,13 +17,11 @@ Inv-loop marks₀ at ground plan width height y₀ marks y =
 abbrev μ-loop : tie.MeasureT-loop
 μ-loop marks₀ at ground plan width height y₀ marks y = height - y
 
--- src/lib.rt:75:5
 loop-holds : tie.Need-loop-holds Inv-loop μ-loop
 loop-holds c =
     let a = c .before .before .before .args in
     (omega arith, refl, part-none (a .ground .now) (a .plan .now) (a .at) (a .width) (a .marks .now))
 
--- src/lib.rt:78:18
 -- a row of the window ends within the marks, and within the counts
 row : (c : tie.After-mark-row-arg Inv-loop μ-loop)
     → (let a = c .before .before .before .before .before .before .args in
@@ -41,31 +37,24 @@ row c =
 mul-mark-row : tie.Need-mul-mark-row Inv-loop μ-loop
 mul-mark-row c = let r = row c in omega (arith, r)
 
--- src/lib.rt:78:13
 add-mark-row : tie.Need-add-mark-row Inv-loop μ-loop
 add-mark-row c = let r = row c in omega (arith, r)
 
--- src/lib.rt:81:18
 add-mark-row-2 : tie.Need-add-mark-row-2 Inv-loop μ-loop
 add-mark-row-2 c = omega arith
 
--- src/lib.rt:81:13
 mul-mark-row-2 : tie.Need-mul-mark-row-2 Inv-loop μ-loop
 mul-mark-row-2 c = let r = row c in omega (arith, r)
 
--- src/lib.rt:76:9
 mark-row-requires : tie.Need-mark-row-requires Inv-loop μ-loop
 mark-row-requires c κs = let r = row c in (omega (arith, r), omega (arith, r), omega (arith, r))
 
--- src/lib.rt:84:9
 add-y : tie.Need-add-y Inv-loop μ-loop
 add-y c = omega arith
 
--- src/lib.rt:75:5
 loop-less : tie.Need-loop-less Inv-loop μ-loop
 loop-less c = omega arith
 
--- src/lib.rt:75:5
 loop-again : tie.Need-loop-again Inv-loop μ-loop
 loop-again c =
     let a = c .before .before .before .before .before .before .before .before .before .args in
@@ -75,11 +64,9 @@ loop-again c =
       part-more (a .ground .now) (a .plan .now) (a .at) (a .width) (l .y) (l .inv .2) (c .before .before .mark-row .ensures),
     )
 
--- src/lib.rt:63:1
 same-length : tie.Need-same-length Inv-loop μ-loop
 same-length c = search needs
 
--- src/lib.rt:63:1
 returns : tie.Need-returns Inv-loop μ-loop
 returns c =
     let l = c .before .loop in

@@ -1,43 +1,31 @@
+-- `marks::count_plan` meets its contract: cleared, stamped and finished. Assumes nothing.
 use native.Mathlib.Omega.{arith}
-use Rattle.stamps.proofs.Adding.{counted}
 use borrow.Author.Needs.{needs}
+use Rattle.stamps.proofs.Adding.{counted}
 use Rattle.marks.proofs.count_plan.Statement.{statement}
 use Rattle.marks.proofs.count_plan.Tie as tie
-use Rattle.marks.proofs.count_plan.Reads as reads
-use Rattle.marks.proofs.count_plan.Lts as lts
-use Rattle.grid.proofs.clear.Reads as clear-reads
-use Rattle.grid.proofs.finish.Reads as finish-reads
-use Rattle.stamps.proofs.stamp_plan.Reads as stamp-plan-reads
 
--- src/lib.rt:150:18
 add-stride : tie.Need-add-stride
 add-stride c = search needs
 
--- src/lib.rt:151:16
 add-rows : tie.Need-add-rows
 add-rows c = search needs
 
--- src/lib.rt:152:23
 mul-clear : tie.Need-mul-clear
 mul-clear c = search needs
 
--- src/lib.rt:152:5
 clear-requires : tie.Need-clear-requires
 clear-requires c κs = search needs
 
--- src/lib.rt:153:5
 stamp-plan-requires : tie.Need-stamp-plan-requires
 stamp-plan-requires c κs = search needs
 
--- src/lib.rt:154:5
 finish-requires : tie.Need-finish-requires
 finish-requires c κs = search needs
 
--- src/lib.rt:145:1
 same-length : tie.Need-same-length
 same-length c = search needs
 
--- src/lib.rt:145:1
 returns : tie.Need-returns
 returns c =
     let p3 = c .before .before in

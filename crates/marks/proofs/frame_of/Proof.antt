@@ -1,19 +1,17 @@
+-- `marks::frame_of` meets its contract: each side carried up by 2 ^ 31, and the differences. Assumes nothing.
 use mathlib.Core.Path.{_≡_}
 use Prim.Native.Nat.{ℕ, _+_}
 use native.Mathlib.Omega.{arith}
 use lib.IntN.{pos, _-ℤ_}
+use borrow.Author.Needs.{needs}
 use mir.Facts.{toZ-ofZ}
 use mir.Syntax.{w32}
 use mir.Val.{SFits}
 use Rattle.numbers.specs.Integers.{up, dn}
 use Rattle.numbers.proofs.Integers.{≡-nat, sub-nat, abs-nat, apart, leZ-true}
 use Rattle.stamps.specs.declared.Frame.{Frame}
-use borrow.Author.Needs.{needs}
 use Rattle.marks.proofs.frame_of.Statement.{statement}
 use Rattle.marks.proofs.frame_of.Tie as tie
-use Rattle.marks.proofs.frame_of.Reads as reads
-use Rattle.marks.proofs.frame_of.Lts as lts
-use Rattle.numbers.proofs.biased.Reads as biased-reads
 
 frame-path : {l t w h l' t' w' h' : ℕ} → l ≡ l' → t ≡ t' → w ≡ w' → h ≡ h'
     → _≡_ {A = Frame} (record { left = l; top = t; width = w; height = h }) (record { left = l'; top = t'; width = w'; height = h' })
@@ -44,39 +42,30 @@ bottom c =
     let f : SFits w32 (w .bottom) = search needs in
     omega (arith, c .biased4 .ensures, ≡-nat (toZ-ofZ f))
 
--- src/lib.rt:94:9
 biased-requires : tie.Need-biased-requires
 biased-requires c κs = search needs
 
--- src/lib.rt:95:9
 biased-requires-2 : tie.Need-biased-requires-2
 biased-requires-2 c κs = search needs
 
--- src/lib.rt:97:15
 sub-t4 : tie.Need-sub-t4
 sub-t4 c = omega (arith, left (c .before .before), leZ-true (pos 0) (c .before .before .before .before .args .window .left) (c .before .before .before .before .pre .0 .0))
 
--- src/lib.rt:98:14
 sub-t5 : tie.Need-sub-t5
 sub-t5 c = omega (arith, top c, leZ-true (pos 0) (c .before .before .before .before .args .window .top) (c .before .before .before .before .pre .0 .1))
 
--- src/lib.rt:99:17
 biased-requires-3 : tie.Need-biased-requires-3
 biased-requires-3 c κs = search needs
 
--- src/lib.rt:99:17
 sub-t7 : tie.Need-sub-t7
 sub-t7 c = omega (arith, left (c .before .before .before .before), right c, leZ-true (c .before .before .before .before .before .before .args .window .left) (c .before .before .before .before .before .before .args .window .right) (c .before .before .before .before .before .before .pre .1 .0))
 
--- src/lib.rt:100:18
 biased-requires-4 : tie.Need-biased-requires-4
 biased-requires-4 c κs = search needs
 
--- src/lib.rt:100:18
 sub-t10 : tie.Need-sub-t10
 sub-t10 c = omega (arith, top (c .before .before .before .before), bottom c, leZ-true (c .before .before .before .before .before .before .before .before .args .window .top) (c .before .before .before .before .before .before .before .before .args .window .bottom) (c .before .before .before .before .before .before .before .before .pre .1 .1))
 
--- src/lib.rt:89:1
 returns : tie.Need-returns
 returns c =
     let s = c .before .before .before .before .before .before .before .before in

@@ -1,21 +1,15 @@
+-- `marks::mark_centers` meets its contract: counts of the ground and of the plan, and marks from both. Assumes nothing.
 use Prim.Native.Nat.{_+_}
-use Rattle.model.specs.Boxes.{widthOf, heightOf}
 use native.Mathlib.Omega.{arith}
 use native.Mathlib.Nat.{mul-comm}
+use borrow.Author.Needs.{needs}
+use Rattle.model.specs.Boxes.{widthOf, heightOf}
 use Rattle.marks.specs.Marks.{ground}
 use Rattle.marks.proofs.Windows.{across-le, down-le}
 use Rattle.marks.proofs.Showing.{ready-sides, framed, shown}
-use borrow.Author.Needs.{needs}
 use Rattle.marks.proofs.mark_centers.Statement.{statement}
 use Rattle.marks.proofs.mark_centers.Tie as tie
-use Rattle.marks.proofs.mark_centers.Reads as reads
-use Rattle.marks.proofs.mark_centers.Lts as lts
-use Rattle.marks.proofs.count_ground.Reads as count-ground-reads
-use Rattle.marks.proofs.count_plan.Reads as count-plan-reads
-use Rattle.marks.proofs.frame_of.Reads as frame-of-reads
-use Rattle.marks.proofs.settle.Reads as settle-reads
 
--- src/lib.rt:178:9
 frame-of-requires : tie.Need-frame-of-requires
 frame-of-requires c κs =
     let s = c .before .before .before .before in
@@ -23,7 +17,6 @@ frame-of-requires c κs =
     let k = ready-sides (ground (a .width) (a .height) (a .cells .now) (a .words .now)) (a .window) (a .plan) (s .pre .0) in
     ((k .left-in, k .top-in), (across-le k, down-le k))
 
--- src/lib.rt:181:5
 count-ground-requires : tie.Need-count-ground-requires
 count-ground-requires c κs =
     let s = c .before .before .before .before .before .before in
@@ -31,14 +24,12 @@ count-ground-requires c κs =
     let r = s .pre .0 in
     rw (c .before .frame-of .ensures) (framed (ground (a .width) (a .height) (a .cells .now) (a .words .now)) (a .window) (a .plan) r (a .base .now) (s .pre .1 .base), (r .wide, r .high, r .cells, r .words))
 
--- src/lib.rt:190:5
 count-plan-requires : tie.Need-count-plan-requires
 count-plan-requires c κs =
     let s = c .before .before .before .before .before .before .before .before .before .before in
     let a = s .args in
     rw (c .before .before .before .before .before .frame-of .ensures) (framed (ground (a .width) (a .height) (a .cells .now) (a .words .now)) (a .window) (a .plan) (s .pre .0) (a .planned .now) (s .pre .1 .plan), s .pre .0 .count)
 
--- src/lib.rt:191:5
 settle-requires : tie.Need-settle-requires
 settle-requires c κs =
     let s = c .before .before .before .before .before .before .before .before .before .before .before .before .before .before .before .before in
@@ -52,19 +43,15 @@ settle-requires c κs =
       omega (arith, r .plan, mul-comm (w + 1) (h + 1), c .before .before .before .before .before .count-plan .kept .0),
     )
 
--- src/lib.rt:162:1
 same-length : tie.Need-same-length
 same-length c = search needs
 
--- src/lib.rt:162:1
 same-length-2 : tie.Need-same-length-2
 same-length-2 c = search needs
 
--- src/lib.rt:162:1
 same-length-3 : tie.Need-same-length-3
 same-length-3 c = search needs
 
--- src/lib.rt:162:1
 returns : tie.Need-returns
 returns c =
     let s = c .before .before .before .before .before .before .before .before .before .before .before .before .before .before .before .before .before .before .before .before .before .before .before in

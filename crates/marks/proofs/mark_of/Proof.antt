@@ -1,18 +1,14 @@
+-- `marks::mark_of` meets its contract. Assumes nothing.
 use borrow.Author.Tests.{lt-ltb, le-ltb}
 use Rattle.marks.proofs.mark_of.Statement.{statement}
 use Rattle.marks.proofs.mark_of.Tie as tie
-use Rattle.marks.proofs.mark_of.Reads as reads
-use Rattle.marks.proofs.mark_of.Lts as lts
 
--- src/lib.rt:22:1
 returns : tie.Need-returns
 returns c = rw (lt-ltb 0 _ (c .if1 .taken))
 
--- src/lib.rt:22:1
 returns-2 : tie.Need-returns-2
 returns-2 c = rw (le-ltb 0 _ (c .before .if1 .left), lt-ltb 0 _ (c .if2 .taken))
 
--- src/lib.rt:22:1
 returns-3 : tie.Need-returns-3
 returns-3 c = rw (le-ltb 0 _ (c .before .if1 .left), le-ltb 0 _ (c .if2 .left))
 

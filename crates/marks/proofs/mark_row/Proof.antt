@@ -1,15 +1,13 @@
-use mathlib.Core.Path.{_≡_, refl, _∙_}
-use Prim.Native.Nat.{_+_, _-_, _≤_}
+-- `marks::mark_row` meets its contract. The invariant: the first i centers of the row are marked. Assumes nothing.
+use mathlib.Core.Path.{_≡_, refl}
+use Prim.Native.Nat.{_-_, _≤_}
 use native.Mathlib.Omega.{arith}
-use borrow.Author.Needs.{needs}
 use lib.ListN.{length, length-set}
+use borrow.Author.Needs.{needs}
 use Rattle.marks.specs.Passes.{Row}
 use Rattle.marks.proofs.Filling.{row-none, row-more}
 use Rattle.marks.proofs.mark_row.Statement.{statement}
 use Rattle.marks.proofs.mark_row.Tie as tie
-use Rattle.marks.proofs.mark_row.Reads as reads
-use Rattle.marks.proofs.mark_row.Lts as lts
-use Rattle.marks.proofs.mark_of.Reads as mark-of-reads
 
 abbrev Inv-loop : tie.InvT-loop
 Inv-loop marks₀ to ground plan from n i₀ marks i =
@@ -18,57 +16,44 @@ Inv-loop marks₀ to ground plan from n i₀ marks i =
 abbrev μ-loop : tie.MeasureT-loop
 μ-loop marks₀ to ground plan from n i₀ marks i = n - i
 
--- src/lib.rt:55:5
 loop-holds : tie.Need-loop-holds Inv-loop μ-loop
 loop-holds c =
     let a = c .before .before .before .args in
     (omega arith, refl, row-none (a .ground .now) (a .plan .now) (a .to) (a .from) (a .marks .now))
 
--- src/lib.rt:56:35
 add-mark-of : tie.Need-add-mark-of Inv-loop μ-loop
 add-mark-of c = omega arith
 
--- src/lib.rt:56:28
 mul-mark-of : tie.Need-mul-mark-of Inv-loop μ-loop
 mul-mark-of c = omega arith
 
--- src/lib.rt:56:28
 shared-slice-read-mark-of : tie.Need-shared-slice-read-mark-of Inv-loop μ-loop
 shared-slice-read-mark-of c = omega arith
 
--- src/lib.rt:56:51
 add-mark-of-2 : tie.Need-add-mark-of-2 Inv-loop μ-loop
 add-mark-of-2 c = omega arith
 
--- src/lib.rt:56:46
 mul-mark-of-2 : tie.Need-mul-mark-of-2 Inv-loop μ-loop
 mul-mark-of-2 c = omega arith
 
--- src/lib.rt:56:46
 shared-slice-read-mark-of-2 : tie.Need-shared-slice-read-mark-of-2 Inv-loop μ-loop
 shared-slice-read-mark-of-2 c = omega arith
 
--- src/lib.rt:56:13
 mark-of-requires : tie.Need-mark-of-requires Inv-loop μ-loop
 mark-of-requires c κs = search needs
 
--- src/lib.rt:57:15
 add-marks : tie.Need-add-marks Inv-loop μ-loop
 add-marks c = omega arith
 
--- src/lib.rt:57:9
 slice-write-marks : tie.Need-slice-write-marks Inv-loop μ-loop
 slice-write-marks c = omega arith
 
--- src/lib.rt:58:9
 add-i : tie.Need-add-i Inv-loop μ-loop
 add-i c = omega arith
 
--- src/lib.rt:55:5
 loop-less : tie.Need-loop-less Inv-loop μ-loop
 loop-less c = omega arith
 
--- src/lib.rt:55:5
 loop-again : tie.Need-loop-again Inv-loop μ-loop
 loop-again c =
     let a = c .before .before .before .before .before .before .before .before .args in
@@ -78,11 +63,9 @@ loop-again c =
       row-more (a .ground .now) (a .plan .now) (a .to) (a .from) (l .i) (c .mark-of .result) (omega arith) (c .mark-of .ensures) (l .inv .2),
     )
 
--- src/lib.rt:43:1
 same-length : tie.Need-same-length Inv-loop μ-loop
 same-length c = search needs
 
--- src/lib.rt:43:1
 returns : tie.Need-returns Inv-loop μ-loop
 returns c =
     let l = c .before .loop in

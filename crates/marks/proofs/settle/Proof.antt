@@ -1,62 +1,47 @@
+-- `marks::settle` meets its contract: the second part leaves the first as it is. Assumes nothing.
 use mathlib.Core.Path.{_∙_}
 use mathlib.Core.Logic.{inr}
 use Prim.Native.Nat.{_+_, _*_}
 use native.Mathlib.Omega.{arith}
+use borrow.Author.Needs.{needs}
 use Rattle.numbers.proofs.Lists.{same-rest}
 use Rattle.marks.proofs.Filling.{first-stays}
-use borrow.Author.Needs.{needs}
 use Rattle.marks.proofs.settle.Statement.{statement}
 use Rattle.marks.proofs.settle.Tie as tie
-use Rattle.marks.proofs.settle.Reads as reads
-use Rattle.marks.proofs.settle.Lts as lts
-use Rattle.grid.proofs.clear.Reads as clear-reads
-use Rattle.marks.proofs.blocked_centers.Reads as blocked-centers-reads
 
--- src/lib.rt:154:14
 add-n : tie.Need-add-n
 add-n c = search needs
 
--- src/lib.rt:154:29
 add-n-2 : tie.Need-add-n-2
 add-n-2 c = search needs
 
--- src/lib.rt:154:13
 mul-n : tie.Need-mul-n
 mul-n c = search needs
 
--- src/lib.rt:155:5
 blocked-centers-requires : tie.Need-blocked-centers-requires
 blocked-centers-requires c κs = search needs
 
--- src/lib.rt:156:28
 mul-blocked-centers : tie.Need-mul-blocked-centers
 mul-blocked-centers c = search needs
 
--- src/lib.rt:156:5
 blocked-centers-requires-2 : tie.Need-blocked-centers-requires-2
 blocked-centers-requires-2 c κs = search needs
 
--- src/lib.rt:157:5
 clear-requires : tie.Need-clear-requires
 clear-requires c κs = search needs
 
--- src/lib.rt:158:5
 clear-requires-2 : tie.Need-clear-requires-2
 clear-requires-2 c κs = search needs
 
--- src/lib.rt:144:1
 same-length : tie.Need-same-length
 same-length c = search needs
 
--- src/lib.rt:144:1
 same-length-2 : tie.Need-same-length-2
 same-length-2 c = search needs
 
--- src/lib.rt:144:1
 same-length-3 : tie.Need-same-length-3
 same-length-3 c = search needs
 
--- src/lib.rt:144:1
 returns : tie.Need-returns
 returns c =
     let p4 = c .before .before .clear2 in

@@ -1,33 +1,24 @@
+-- `marks::stamp_ground` meets its contract: the map's edge, the unwalkable cells and the obstacles block a center. Assumes nothing.
 use native.Mathlib.Omega.{arith}
+use borrow.Author.Needs.{needs}
 use Rattle.stamps.proofs.Adding.{adds-then, adds-same}
 use Rattle.marks.specs.Marks.{ground}
 use Rattle.marks.proofs.Blocking.{blocked-before}
-use borrow.Author.Needs.{needs}
 use Rattle.marks.proofs.stamp_ground.Statement.{statement}
 use Rattle.marks.proofs.stamp_ground.Tie as tie
-use Rattle.marks.proofs.stamp_ground.Reads as reads
-use Rattle.marks.proofs.stamp_ground.Lts as lts
-use Rattle.stamps.proofs.stamp_map_edge.Reads as stamp-map-edge-reads
-use Rattle.stamps.proofs.stamp_obstacles.Reads as stamp-obstacles-reads
-use Rattle.stamps.proofs.stamp_terrain_blockers.Reads as stamp-terrain-blockers-reads
 
--- src/lib.rt:118:5
 stamp-map-edge-requires : tie.Need-stamp-map-edge-requires
 stamp-map-edge-requires c κs = search needs
 
--- src/lib.rt:119:5
 stamp-terrain-blockers-requires : tie.Need-stamp-terrain-blockers-requires
 stamp-terrain-blockers-requires c κs = search needs
 
--- src/lib.rt:120:5
 stamp-obstacles-requires : tie.Need-stamp-obstacles-requires
 stamp-obstacles-requires c κs = search needs
 
--- src/lib.rt:105:1
 same-length : tie.Need-same-length
 same-length c = search needs
 
--- src/lib.rt:105:1
 returns : tie.Need-returns
 returns c =
     let p3 = c .before .before in

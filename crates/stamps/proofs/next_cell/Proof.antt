@@ -1,3 +1,4 @@
+-- `stamps::next_cell` meets its contract. The invariant: no cell passed has the wanted bit. Assumes nothing.
 use mathlib.Core.Path.{_≡_}
 use Prim.Native.Nat.{ℕ, _/_, _%_, _-_, _≤_, _<_}
 use native.Mathlib.Omega.{arith}
@@ -5,8 +6,6 @@ use lib.ListN.{getD}
 use Rattle.stamps.proofs.Some.{none-more}
 use Rattle.stamps.proofs.next_cell.Statement.{statement}
 use Rattle.stamps.proofs.next_cell.Tie as tie
-use Rattle.stamps.proofs.next_cell.Reads as reads
-use Rattle.stamps.proofs.next_cell.Lts as lts
 
 abbrev Inv-loop : tie.InvT-loop
 Inv-loop cells at end wanted i₀ i = (at ≤ i) × (i ≤ end) × ((k : ℕ) → at ≤ k → k < i → getD cells k 0 / 16 % 2 ≡ wanted → ⊥)
@@ -14,36 +13,29 @@ Inv-loop cells at end wanted i₀ i = (at ≤ i) × (i ≤ end) × ((k : ℕ) �
 abbrev μ-loop : tie.MeasureT-loop
 μ-loop cells at end wanted i₀ i = end - i
 
--- src/lib.rt:90:5
 loop-holds : tie.Need-loop-holds Inv-loop μ-loop
 loop-holds c = (omega arith, omega arith, λ k h l e. omega arith)
 
--- src/lib.rt:91:12
 shared-slice-read-if1 : tie.Need-shared-slice-read-if1 Inv-loop μ-loop
 shared-slice-read-if1 c = omega arith
 
--- src/lib.rt:92:13
 returns : tie.Need-returns Inv-loop μ-loop
 returns c =
     let i = c .before .before .before .loop .inv in
     record { from = i .0; within = i .1; before = i .2; found = λ h. c .if1 .taken }
 
--- src/lib.rt:94:9
 add-i : tie.Need-add-i Inv-loop μ-loop
 add-i c = omega arith
 
--- src/lib.rt:90:5
 loop-less : tie.Need-loop-less Inv-loop μ-loop
 loop-less c = omega arith
 
--- src/lib.rt:90:5
 loop-again : tie.Need-loop-again Inv-loop μ-loop
 loop-again c =
     let l = c .before .before .before .loop in
     let a = c .before .before .before .before .args in
     (omega arith, omega arith, none-more (λ k. getD (a .cells .now) k 0 / 16 % 2 ≡ a .wanted) (a .at) (l .i) (l .inv .2) (c .if1 .left))
 
--- src/lib.rt:85:1
 returns-2 : tie.Need-returns-2 Inv-loop μ-loop
 returns-2 c =
     let i = c .before .loop .inv in

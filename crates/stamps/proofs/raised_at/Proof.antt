@@ -1,95 +1,73 @@
+-- `stamps::raised_at` meets its contract: each word, carried up twice by 2 ^ 31. Assumes nothing.
 use Prim.Native.Nat.{_+_}
+use native.Mathlib.Omega.{arith}
 use lib.IntN.{pos}
 use lib.ListN.{getD}
+use borrow.Author.Needs.{needs}
 use mir.Facts.{toZ-ofZ}
 use mir.Syntax.{w32}
 use mir.Val.{SFits}
 use Rattle.numbers.proofs.Integers.{≡-nat}
-use native.Mathlib.Omega.{arith}
-use borrow.Author.Needs.{needs}
 use Rattle.stamps.proofs.raised_at.Statement.{statement}
 use Rattle.stamps.proofs.raised_at.Tie as tie
-use Rattle.stamps.proofs.raised_at.Reads as reads
-use Rattle.stamps.proofs.raised_at.Lts as lts
-use Rattle.numbers.proofs.biased.Reads as biased-reads
 
--- src/lib.rt:222:31
 mul-biased : tie.Need-mul-biased
 mul-biased c = search needs
 
--- src/lib.rt:222:31
 shared-slice-copy-out-biased : tie.Need-shared-slice-copy-out-biased
 shared-slice-copy-out-biased c = search needs
 
--- src/lib.rt:222:15
 biased-requires : tie.Need-biased-requires
 biased-requires c κs = search needs
 
--- src/lib.rt:222:15
 add-t7 : tie.Need-add-t7
 add-t7 c = search needs
 
--- src/lib.rt:223:36
 add-biased : tie.Need-add-biased
 add-biased c = search needs
 
--- src/lib.rt:223:30
 mul-biased-2 : tie.Need-mul-biased-2
 mul-biased-2 c = search needs
 
--- src/lib.rt:223:30
 shared-slice-copy-out-biased-2 : tie.Need-shared-slice-copy-out-biased-2
 shared-slice-copy-out-biased-2 c = search needs
 
--- src/lib.rt:223:14
 biased-requires-2 : tie.Need-biased-requires-2
 biased-requires-2 c κs = search needs
 
--- src/lib.rt:223:14
 add-t13 : tie.Need-add-t13
 add-t13 c = search needs
 
--- src/lib.rt:224:38
 add-biased-2 : tie.Need-add-biased-2
 add-biased-2 c = search needs
 
--- src/lib.rt:224:32
 mul-biased-3 : tie.Need-mul-biased-3
 mul-biased-3 c = search needs
 
--- src/lib.rt:224:32
 shared-slice-copy-out-biased-3 : tie.Need-shared-slice-copy-out-biased-3
 shared-slice-copy-out-biased-3 c = search needs
 
--- src/lib.rt:224:16
 biased-requires-3 : tie.Need-biased-requires-3
 biased-requires-3 c κs = search needs
 
--- src/lib.rt:224:16
 add-t19 : tie.Need-add-t19
 add-t19 c = search needs
 
--- src/lib.rt:225:39
 add-biased-3 : tie.Need-add-biased-3
 add-biased-3 c = search needs
 
--- src/lib.rt:225:33
 mul-biased-4 : tie.Need-mul-biased-4
 mul-biased-4 c = search needs
 
--- src/lib.rt:225:33
 shared-slice-copy-out-biased-4 : tie.Need-shared-slice-copy-out-biased-4
 shared-slice-copy-out-biased-4 c = search needs
 
--- src/lib.rt:225:17
 biased-requires-4 : tie.Need-biased-requires-4
 biased-requires-4 c κs = search needs
 
--- src/lib.rt:225:17
 add-t25 : tie.Need-add-t25
 add-t25 c = search needs
 
--- src/lib.rt:217:1
 returns : tie.Need-returns
 returns c =
     let s = c .before .before .before .before .before .before .before .before in

@@ -1,31 +1,23 @@
+-- `stamps::stamp_map_edge` meets its contract. Assumes nothing.
 use native.Mathlib.Omega.{arith}
+use borrow.Author.Needs.{needs}
 use Rattle.stamps.proofs.Adding.{adds-same}
 use Rattle.stamps.proofs.Edges.{edge-leaves}
-use borrow.Author.Needs.{needs}
 use Rattle.stamps.proofs.stamp_map_edge.Statement.{statement}
 use Rattle.stamps.proofs.stamp_map_edge.Tie as tie
-use Rattle.stamps.proofs.stamp_map_edge.Reads as reads
-use Rattle.stamps.proofs.stamp_map_edge.Lts as lts
-use Rattle.stamps.proofs.inner.Reads as inner-reads
-use Rattle.stamps.proofs.stamp_outside.Reads as stamp-outside-reads
 
--- src/lib.rt:320:9
 inner-requires : tie.Need-inner-requires
 inner-requires c κs = search needs
 
--- src/lib.rt:327:9
 inner-requires-2 : tie.Need-inner-requires-2
 inner-requires-2 c κs = search needs
 
--- src/lib.rt:336:5
 stamp-outside-requires : tie.Need-stamp-outside-requires
 stamp-outside-requires c κs = rw (c .before .before .inner .ensures, c .before .inner2 .ensures) (search needs)
 
--- src/lib.rt:309:1
 same-length : tie.Need-same-length
 same-length c = search needs
 
--- src/lib.rt:309:1
 returns : tie.Need-returns
 returns c =
     let p = c .before .before in

@@ -1,18 +1,15 @@
+-- `stamps::stamp_obstacles` meets its contract. The invariant: the first i obstacles are stamped. Assumes nothing.
 use mathlib.Core.Path.{_≡_, refl, sym, ap, _∙_}
-use Prim.Native.Nat.{ℕ, _+_, _*_, _/_, _-_, _≤_, _<_}
+use Prim.Native.Nat.{ℕ, _*_, _/_, _-_, _≤_}
 use native.Mathlib.Omega.{arith}
+use lib.ListN.{length}
 use borrow.Author.Needs.{needs}
-use lib.ListN.{length, getD}
-use Rattle.stamps.specs.Stamps.{Adds, among, stop, stops}
-use Rattle.stamps.proofs.Adding.{adds-start, adds-next, adds-same}
 use Rattle.model.proofs.Lists.{rectAt}
+use Rattle.stamps.specs.Stamps.{Adds, among, stop}
+use Rattle.stamps.proofs.Adding.{adds-start, adds-next, adds-same}
 use Rattle.stamps.proofs.Listed.{any-rects}
 use Rattle.stamps.proofs.stamp_obstacles.Statement.{statement}
 use Rattle.stamps.proofs.stamp_obstacles.Tie as tie
-use Rattle.stamps.proofs.stamp_obstacles.Reads as reads
-use Rattle.stamps.proofs.stamp_obstacles.Lts as lts
-use Rattle.stamps.proofs.raised_at.Reads as raised-at-reads
-use Rattle.stamps.proofs.stamp_expanded.Reads as stamp-expanded-reads
 
 abbrev Inv-loop : tie.InvT-loop
 Inv-loop grid₀ frame mover words count i₀ grid i =
@@ -21,33 +18,26 @@ Inv-loop grid₀ frame mover words count i₀ grid i =
 abbrev μ-loop : tie.MeasureT-loop
 μ-loop grid₀ frame mover words count i₀ grid i = count - i
 
--- src/lib.rt:242:5
 loop-holds : tie.Need-loop-holds Inv-loop μ-loop
 loop-holds c =
     let a = c .before .args in
     (omega arith, refl, adds-start (λ k x y. stop (a .frame) (a .mover) (rectAt (a .words .now) (4 * k)) x y) 0 (a .grid .now))
 
--- src/lib.rt:243:41
 mul-raised-at : tie.Need-mul-raised-at Inv-loop μ-loop
 mul-raised-at c = omega arith
 
--- src/lib.rt:243:13
 raised-at-requires : tie.Need-raised-at-requires Inv-loop μ-loop
 raised-at-requires c κs = omega arith
 
--- src/lib.rt:244:9
 stamp-expanded-requires : tie.Need-stamp-expanded-requires Inv-loop μ-loop
 stamp-expanded-requires c κs = search needs
 
--- src/lib.rt:245:9
 add-i : tie.Need-add-i Inv-loop μ-loop
 add-i c = omega arith
 
--- src/lib.rt:242:5
 loop-less : tie.Need-loop-less Inv-loop μ-loop
 loop-less c = omega arith
 
--- src/lib.rt:242:5
 loop-again : tie.Need-loop-again Inv-loop μ-loop
 loop-again c =
     let a = c .before .before .before .before .before .before .before .before .args in
@@ -59,11 +49,9 @@ loop-again c =
           (c .before .before .stamp-expanded .ensures (rectAt (a .words .now) (4 * l .i)) (r .ensures .carried)),
     )
 
--- src/lib.rt:230:1
 same-length : tie.Need-same-length Inv-loop μ-loop
 same-length c = search needs
 
--- src/lib.rt:230:1
 returns : tie.Need-returns Inv-loop μ-loop
 returns c =
     let a = c .before .before .before .args in

@@ -1,29 +1,23 @@
+-- `stamps::stamp_outside` meets its contract: a rectangle on each side. Assumes nothing.
 use Prim.Native.Nat.{_+_, _<_}
 use native.Mathlib.Omega.{arith}
 use lib.Dec.{leb, ltb}
+use borrow.Author.Needs.{needs}
 use Rattle.numbers.proofs.Places.{rows-fit}
 use Rattle.stamps.proofs.Adding.{adds-box, adds-then}
 use Rattle.stamps.proofs.Edges.{left-of-all, right-of-all, above-all, below-all}
-use borrow.Author.Needs.{needs}
 use Rattle.stamps.proofs.stamp_outside.Statement.{statement}
 use Rattle.stamps.proofs.stamp_outside.Tie as tie
-use Rattle.stamps.proofs.stamp_outside.Reads as reads
-use Rattle.stamps.proofs.stamp_outside.Lts as lts
-use Rattle.grid.proofs.add_rect.Reads as add-rect-reads
 
--- src/lib.rt:301:18
 add-stride : tie.Need-add-stride
 add-stride c = search needs
 
--- src/lib.rt:302:5
 add-rect-requires : tie.Need-add-rect-requires
 add-rect-requires c κs = search needs
 
--- src/lib.rt:303:5
 add-rect-requires-2 : tie.Need-add-rect-requires-2
 add-rect-requires-2 c κs = search needs
 
--- src/lib.rt:304:5
 add-rect-requires-3 : tie.Need-add-rect-requires-3
 add-rect-requires-3 c κs =
     let s = c .before .before .before .before .before .before .before .before .before .before in
@@ -31,15 +25,12 @@ add-rect-requires-3 c κs =
     let low : a .rows .from < a .height + 1 = omega arith in
     (omega arith, rows-fit (a .width + 1) (a .rows .from) (a .height + 1) _ low (search needs))
 
--- src/lib.rt:305:5
 add-rect-requires-4 : tie.Need-add-rect-requires-4
 add-rect-requires-4 c κs = search needs
 
--- src/lib.rt:296:1
 same-length : tie.Need-same-length
 same-length c = search needs
 
--- src/lib.rt:296:1
 returns : tie.Need-returns
 returns c =
     let p4 = c .before .before in

@@ -1,19 +1,16 @@
+-- `stamps::stamp_plan` meets its contract. The invariant: the first i buildings are stamped. Assumes nothing.
 use mathlib.Core.Path.{_≡_, refl, sym, ap, subst, _∙_}
-use Prim.Native.Nat.{ℕ, _+_, _*_, _-_, _≤_, _<_}
+use Prim.Native.Nat.{ℕ, _-_, _≤_}
 use native.Mathlib.Omega.{arith}
-use borrow.Author.Needs.{needs}
 use lib.ListN.{length, length-map, getD}
+use borrow.Author.Needs.{needs}
 use Rattle.model.specs.declared.WallBuilding.{WallBuilding}
-use Rattle.stamps.specs.Stamps.{Adds, Carried, among, stop, stops}
-use Rattle.stamps.proofs.Adding.{adds-start, adds-next, adds-same}
 use Rattle.model.specs.Boxes.{collisionBox}
+use Rattle.stamps.specs.Stamps.{Adds, Carried, among, stop}
+use Rattle.stamps.proofs.Adding.{adds-start, adds-next, adds-same}
 use Rattle.stamps.proofs.Listed.{any-first, same-default, no-building}
 use Rattle.stamps.proofs.stamp_plan.Statement.{statement}
 use Rattle.stamps.proofs.stamp_plan.Tie as tie
-use Rattle.stamps.proofs.stamp_plan.Reads as reads
-use Rattle.stamps.proofs.stamp_plan.Lts as lts
-use Rattle.stamps.proofs.raised_collision.Reads as raised-collision-reads
-use Rattle.stamps.proofs.stamp_expanded.Reads as stamp-expanded-reads
 
 abbrev Inv-loop : tie.InvT-loop
 Inv-loop grid₀ frame mover plan count i₀ grid i =
@@ -26,37 +23,29 @@ abbrev μ-loop : tie.MeasureT-loop
 long : (c : tie.Start Inv-loop μ-loop) → length (c .args .t4 .buildings) ≡ 32
 long c = simp length-map at (c .good .1 .1 .1 .0 .1 .1 .0 .1 .0 .1)
 
--- src/lib.rt:274:5
 loop-holds : tie.Need-loop-holds Inv-loop μ-loop
 loop-holds c =
     let a = c .before .args in
     (omega arith, refl, adds-start (λ k x y. stop (a .frame) (a .mover) (collisionBox (getD (a .t4 .buildings) k no-building)) x y) 0 (a .grid .now))
 
--- src/lib.rt:275:24
 mul-building : tie.Need-mul-building Inv-loop μ-loop
 mul-building c = omega arith
 
--- src/lib.rt:275:24
 element-copy-out-building : tie.Need-element-copy-out-building Inv-loop μ-loop
 element-copy-out-building c = search needs
 
--- src/lib.rt:276:13
 raised-collision-requires : tie.Need-raised-collision-requires Inv-loop μ-loop
 raised-collision-requires c κs = search needs
 
--- src/lib.rt:277:9
 stamp-expanded-requires : tie.Need-stamp-expanded-requires Inv-loop μ-loop
 stamp-expanded-requires c κs = search needs
 
--- src/lib.rt:278:9
 add-i : tie.Need-add-i Inv-loop μ-loop
 add-i c = omega arith
 
--- src/lib.rt:274:5
 loop-less : tie.Need-loop-less Inv-loop μ-loop
 loop-less c = omega arith
 
--- src/lib.rt:274:5
 loop-again : tie.Need-loop-again Inv-loop μ-loop
 loop-again c =
     let a = c .before .before .before .before .before .before .before .before .before .args in
@@ -69,11 +58,9 @@ loop-again c =
           (subst (λ (b : WallBuilding). Carried (collisionBox b) (r .result)) (same-default (a .t4 .buildings) (l .i) _ no-building (omega (arith, long (c .before .before .before .before .before .before .before .before .before)))) (r .ensures .carried))),
     )
 
--- src/lib.rt:267:1
 same-length : tie.Need-same-length Inv-loop μ-loop
 same-length c = search needs
 
--- src/lib.rt:267:1
 returns : tie.Need-returns Inv-loop μ-loop
 returns c =
     let a = c .before .before .before .args in

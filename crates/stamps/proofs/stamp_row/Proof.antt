@@ -1,9 +1,11 @@
+-- `stamps::stamp_row` meets its contract. The invariant: the unwalkable cells before the column are stamped. A turn passes a gap of walkable cells
+-- and stamps the run behind it. Assumes nothing.
 use mathlib.Core.Path.{_≡_, refl, sym, ap, subst, _∙_}
 use mathlib.Core.Bool.{not, _&&_}
 use Prim.Native.Nat.{ℕ, _+_, _*_, _-_, _≤_, _<_}
 use native.Mathlib.Omega.{arith}
-use borrow.Author.Needs.{needs}
 use lib.ListN.{length, getD}
+use borrow.Author.Needs.{needs}
 use Rattle.model.specs.Ground.{walkable}
 use Rattle.stamps.specs.Stamps.{Adds, NextCell, stop, cellAt, rowStops}
 use Rattle.stamps.proofs.Some.{among-none}
@@ -11,10 +13,6 @@ use Rattle.stamps.proofs.Adding.{adds-none, adds-then, adds-same}
 use Rattle.stamps.proofs.Cells.{goes-on, next-run}
 use Rattle.stamps.proofs.stamp_row.Statement.{statement}
 use Rattle.stamps.proofs.stamp_row.Tie as tie
-use Rattle.stamps.proofs.stamp_row.Reads as reads
-use Rattle.stamps.proofs.stamp_row.Lts as lts
-use Rattle.stamps.proofs.next_cell.Reads as next-cell-reads
-use Rattle.stamps.proofs.stamp_run.Reads as stamp-run-reads
 
 abbrev Inv-loop : tie.InvT-loop
 Inv-loop grid₀ frame mover cells width row first end start column₀ grid column =
@@ -24,11 +22,9 @@ Inv-loop grid₀ frame mover cells width row first end start column₀ grid colu
 abbrev μ-loop : tie.MeasureT-loop
 μ-loop grid₀ frame mover cells width row first end start column₀ grid column = end - column
 
--- src/lib.rt:140:17
 mul-start : tie.Need-mul-start Inv-loop μ-loop
 mul-start c = omega arith
 
--- src/lib.rt:142:5
 loop-holds : tie.Need-loop-holds Inv-loop μ-loop
 loop-holds c =
     let a = c .before .before .args in (
@@ -39,39 +35,30 @@ loop-holds c =
           (λ x y hx hy. sym (among-none (λ k. not (walkable (getD (a .cells .now) (a .row * a .width + k) 0)) && stop (a .frame) (a .mover) (cellAt k (a .row)) x y) (a .first) (a .first) (omega arith))) (adds-none (a .grid .now)),
     )
 
--- src/lib.rt:143:37
 add-next-cell : tie.Need-add-next-cell Inv-loop μ-loop
 add-next-cell c = omega arith
 
--- src/lib.rt:143:53
 add-next-cell-2 : tie.Need-add-next-cell-2 Inv-loop μ-loop
 add-next-cell-2 c = omega arith
 
--- src/lib.rt:143:20
 next-cell-requires : tie.Need-next-cell-requires Inv-loop μ-loop
 next-cell-requires c κs = search needs
 
--- src/lib.rt:143:20
 sub-from : tie.Need-sub-from Inv-loop μ-loop
 sub-from c = omega arith
 
--- src/lib.rt:144:35
 add-next-cell-3 : tie.Need-add-next-cell-3 Inv-loop μ-loop
 add-next-cell-3 c = omega arith
 
--- src/lib.rt:144:49
 add-next-cell-4 : tie.Need-add-next-cell-4 Inv-loop μ-loop
 add-next-cell-4 c = omega arith
 
--- src/lib.rt:144:18
 next-cell-requires-2 : tie.Need-next-cell-requires-2 Inv-loop μ-loop
 next-cell-requires-2 c κs = search needs
 
--- src/lib.rt:144:18
 sub-to : tie.Need-sub-to Inv-loop μ-loop
 sub-to c = omega arith
 
--- src/lib.rt:145:9
 stamp-run-requires : tie.Need-stamp-run-requires Inv-loop μ-loop
 stamp-run-requires c κs = search needs
 
@@ -102,7 +89,6 @@ run d =
     let n = d .next-cell2 in
     subst (λ (r : ℕ). NextCell (a .cells .now) (a .row * a .width + from d) (a .row * a .width + a .end) 1 r) (omega (arith, n .ensures .from)) (n .ensures)
 
--- src/lib.rt:142:5
 loop-less : tie.Need-loop-less Inv-loop μ-loop
 loop-less c =
     let d = c .before .before .before .before in
@@ -110,7 +96,6 @@ loop-less c =
     let column = d .before .before .before .loop .column in
     omega (arith, goes-on (a .frame) (a .mover) (a .cells .now) (a .width) (a .row) (a .first) column (from d) (to d) (a .end) (gap d) (run d) (omega arith))
 
--- src/lib.rt:142:5
 loop-again : tie.Need-loop-again Inv-loop μ-loop
 loop-again c =
     let d = c .before .before .before .before in
@@ -125,11 +110,9 @@ loop-again c =
           (adds-then (l .inv .3) (c .before .before .stamp-run .ensures)),
     )
 
--- src/lib.rt:126:1
 same-length : tie.Need-same-length Inv-loop μ-loop
 same-length c = search needs
 
--- src/lib.rt:126:1
 returns : tie.Need-returns Inv-loop μ-loop
 returns c =
     let a = c .before .before .before .before .args in

@@ -1,60 +1,47 @@
+-- `stamps::stamp_run` meets its contract: an empty run stops nothing, and another is one blocker. Assumes nothing.
 use mathlib.Core.Path.{sym}
 use Prim.Native.Nat.{_+_, _*_}
 use native.Mathlib.Omega.{arith}
+use borrow.Author.Needs.{needs}
 use Rattle.stamps.specs.Stamps.{stop, flat, cellAt}
 use Rattle.stamps.proofs.Some.{among-none}
 use Rattle.stamps.proofs.Adding.{adds-none, adds-same}
 use Rattle.stamps.proofs.Cells.{run-stops}
-use borrow.Author.Needs.{needs}
 use Rattle.stamps.proofs.stamp_run.Statement.{statement}
 use Rattle.stamps.proofs.stamp_run.Tie as tie
-use Rattle.stamps.proofs.stamp_run.Reads as reads
-use Rattle.stamps.proofs.stamp_run.Lts as lts
-use Rattle.stamps.proofs.stamp_expanded.Reads as stamp-expanded-reads
 
--- src/lib.rt:113:9
 returns : tie.Need-returns
 returns c =
     let a = c .before .before .args in
     adds-same (omega arith) (λ x y hx hy. sym (among-none (λ k. stop (a .frame) (a .mover) (cellAt k (a .row)) x y) (a .from) (a .to) (c .if1 .taken))) (adds-none (a .grid .now))
 
--- src/lib.rt:115:23
 mul-top : tie.Need-mul-top
 mul-top c = search needs
 
--- src/lib.rt:115:15
 add-top : tie.Need-add-top
 add-top c = search needs
 
--- src/lib.rt:117:23
 mul-t11 : tie.Need-mul-t11
 mul-t11 c = search needs
 
--- src/lib.rt:117:15
 add-t12 : tie.Need-add-t12
 add-t12 c = search needs
 
--- src/lib.rt:119:24
 mul-t14 : tie.Need-mul-t14
 mul-t14 c = search needs
 
--- src/lib.rt:119:16
 add-t15 : tie.Need-add-t15
 add-t15 c = search needs
 
--- src/lib.rt:120:17
 add-t16 : tie.Need-add-t16
 add-t16 c = search needs
 
--- src/lib.rt:122:5
 stamp-expanded-requires : tie.Need-stamp-expanded-requires
 stamp-expanded-requires c κs = search needs
 
--- src/lib.rt:100:1
 same-length : tie.Need-same-length
 same-length c = search needs
 
--- src/lib.rt:100:1
 returns-2 : tie.Need-returns-2
 returns-2 c =
     let a = c .before .before .before .before .before .before .args in

@@ -1,23 +1,19 @@
-use mathlib.Core.Path.{_≡_, refl, sym, ap, _∙_}
-use Prim.Native.Nat.{ℕ, _+_, _*_, _-_, _≤_, _<_}
+-- `stamps::stamp_terrain_blockers` meets its contract. The invariant: the rows passed are stamped, each with at most 1,024 rectangles. Assumes nothing.
+use mathlib.Core.Path.{_≡_, refl, ap, _∙_}
+use Prim.Native.Nat.{ℕ, _*_, _-_, _≤_, _<_}
 use native.Mathlib.Omega.{arith}
-use borrow.Author.Needs.{needs}
-use lib.ListN.{length, getD}
-use Rattle.stamps.specs.Stamps.{Adds, among, stop, stops}
 use native.Mathlib.Nat.{mul-comm}
+use lib.ListN.{length}
+use borrow.Author.Needs.{needs}
 use Rattle.numbers.proofs.Places.{rows-fit}
+use Rattle.model.specs.declared.CollisionBounds.{CollisionBounds}
+use Rattle.stamps.specs.Stamps.{Adds, among, rowStops, reachOf}
 use Rattle.stamps.specs.declared.Span.{Span}
 use Rattle.stamps.proofs.Adding.{adds-start, adds-next, adds-same}
-use Rattle.stamps.specs.Stamps.{rowStops, reachOf}
 use Rattle.stamps.specs.declared.Frame.{Frame}
-use Rattle.model.specs.declared.CollisionBounds.{CollisionBounds}
 use Rattle.stamps.proofs.Terrain.{terrain-stops}
 use Rattle.stamps.proofs.stamp_terrain_blockers.Statement.{statement}
 use Rattle.stamps.proofs.stamp_terrain_blockers.Tie as tie
-use Rattle.stamps.proofs.stamp_terrain_blockers.Reads as reads
-use Rattle.stamps.proofs.stamp_terrain_blockers.Lts as lts
-use Rattle.stamps.proofs.reach.Reads as reach-reads
-use Rattle.stamps.proofs.stamp_row.Reads as stamp-row-reads
 
 abbrev rowsOf : Frame → CollisionBounds → ℕ → Span
 rowsOf f m height = reachOf (f .top) (f .height) (m .top) (m .bottom) height
@@ -30,15 +26,12 @@ Inv-loop grid₀ frame mover cells width height columns end row₀ grid row =
 abbrev μ-loop : tie.MeasureT-loop
 μ-loop grid₀ frame mover cells width height columns end row₀ grid row = end - row
 
--- src/lib.rt:185:9
 reach-requires : tie.Need-reach-requires Inv-loop μ-loop
 reach-requires c κs = search needs
 
--- src/lib.rt:192:9
 reach-requires-2 : tie.Need-reach-requires-2 Inv-loop μ-loop
 reach-requires-2 c κs = search needs
 
--- src/lib.rt:201:5
 loop-holds : tie.Need-loop-holds Inv-loop μ-loop
 loop-holds c =
     let a = c .before .before .before .before .args in
@@ -49,7 +42,6 @@ loop-holds c =
       adds-same (omega arith) (λ x y hx hy. refl) (adds-start (λ r x y. rowStops (a .frame) (a .mover) (a .cells .now) (a .width) r (columns .from) (columns .to) x y) (c .reach2 .result .from) (a .grid .now)),
     )
 
--- src/lib.rt:202:9
 stamp-row-requires : tie.Need-stamp-row-requires Inv-loop μ-loop
 stamp-row-requires c κs =
     let a = c .before .before .before .before .before .before .before .args in
@@ -65,15 +57,12 @@ stamp-row-requires c κs =
       ),
     )
 
--- src/lib.rt:212:9
 add-row : tie.Need-add-row Inv-loop μ-loop
 add-row c = omega arith
 
--- src/lib.rt:201:5
 loop-less : tie.Need-loop-less Inv-loop μ-loop
 loop-less c = omega arith
 
--- src/lib.rt:201:5
 loop-again : tie.Need-loop-again Inv-loop μ-loop
 loop-again c =
     let a = c .before .before .before .before .before .before .before .before .before .before .args in
@@ -86,11 +75,9 @@ loop-again c =
           (adds-next (λ r x y. rowStops (a .frame) (a .mover) (a .cells .now) (a .width) r (columns .from) (columns .to) x y) (c .before .before .before .before .before .before .reach2 .result .from) (l .row) (omega arith) (l .inv .3) (c .before .before .stamp-row .ensures)),
     )
 
--- src/lib.rt:173:1
 same-length : tie.Need-same-length Inv-loop μ-loop
 same-length c = search needs
 
--- src/lib.rt:173:1
 returns : tie.Need-returns Inv-loop μ-loop
 returns c =
     let a = c .before .before .before .before .before .before .args in
