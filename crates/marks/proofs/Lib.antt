@@ -1,5 +1,4 @@
--- `Filling`: the passes over the marks. `Blocking`: what the counts say of the definitions. `Showing`: marks and the definitions.
+-- `Filling`: the passes over the marks. `Windows`: a window by its corner and its size. `Showing`: the marks and the definitions, with the theorem of this crate.
 pub mod Filling
-pub mod Blocking
 pub mod Windows
 pub mod Showing

@@ -22,9 +22,10 @@ use Rattle.model.specs.Areas.{cleared}
 use Rattle.model.specs.RouteTest.{TestAreas}
 use Rattle.model.proofs.Shifted.{Agree}
 use Rattle.stamps.specs.Stamps.{Framed, Counted, stops}
-use Rattle.marks.specs.Marks.{markOf, Unmarked, Shows, Shown, Centers, Ready, areas, blocked, frameOf}
+use Rattle.counts.specs.Counts.{blocked}
+use Rattle.counts.proofs.Blocking.{blocked-after}
+use Rattle.marks.specs.Marks.{markOf, Unmarked, Shows, Shown, Centers, Ready, areas, frameOf}
 use Rattle.marks.specs.Passes.{covered, Settled}
-use Rattle.marks.proofs.Blocking.{blocked-after}
 use Rattle.marks.proofs.Windows.{Sides, sides, left, top, holds-center, center-held, far-right, far-bottom}
 
 -- ---- what a mark of 0 says

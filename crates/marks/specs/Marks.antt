@@ -5,14 +5,14 @@ use mathlib.Core.Bool.{Bool, true, false, not}
 use mathlib.Core.List.{List}
 use Prim.Native.Nat.{ℕ, _+_, _*_, _≤_, _<_}
 use lib.Dec.{eqb}
-use lib.IntN.{ℤ, natAbs}
+use lib.IntN.{natAbs}
 use lib.ListN.{length, getD, take, drop}
 use Rattle.numbers.proofs.Places.{one-if}
 use Rattle.model.specs.declared.PixelRect.{PixelRect}
 use Rattle.model.specs.declared.CollisionBounds.{CollisionBounds}
 use Rattle.model.specs.declared.Plan.{Plan}
 use Rattle.model.specs.Boxes.{inMap, widthOf, heightOf}
-use Rattle.model.specs.Ground.{Ground, before, after, built, free, passable}
+use Rattle.model.specs.Ground.{Ground, before, after, built, passable}
 use Rattle.model.specs.Refusal.{hollow, cellCap, obstacleCap, buildingCap}
 use Rattle.model.specs.Areas.{differenceRoom, markRoom, centerRoom, cleared}
 use Rattle.model.specs.RouteTest.{TestAreas}
@@ -34,19 +34,12 @@ Unmarked marks w h x y = (x < w) × (y < h) × (getD marks (y * w + x) 0 ≡ 0)
 pub record Marked (f : ℕ → ℕ → Bool) (l t w h : ℕ) (marks : List ℕ) : Type 0 where
   pub mark : (x y : ℕ) → x < w → y < h → getD marks (y * w + x) 0 ≡ markOf (not (f (l + x) (t + y)))
 
-abbrev pub ground : ℕ → ℕ → List ℕ → List ℤ → Ground
-ground width height cells words = record { width = width; height = height; cells = cells; words = words }
-
 abbrev pub areas : List ℕ → List ℕ → List ℕ → TestAreas
 areas base plan marks = record { base = base; plan = plan; marks = marks }
 
 -- the window's corner and its size
 abbrev pub frameOf : PixelRect → Frame
 frameOf w = record { left = natAbs (w .left); top = natAbs (w .top); width = widthOf w; height = heightOf w }
-
--- a center of the window is blocked: not free of the boxes
-abbrev pub blocked : Ground → Frame → CollisionBounds → List PixelRect → ℕ → ℕ → Bool
-blocked g f m boxes x y = not (free g m boxes (f .left + x) (f .top + y))
 
 -- the centers where a chain may pass are those with a mark of 0
 abbrev pub Shows : Ground → PixelRect → CollisionBounds → List PixelRect → List ℕ → Type 0

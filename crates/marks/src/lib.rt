@@ -6,16 +6,13 @@ use model::Plan;
 use stamps::Frame;
 ghost use mathlib.Core.Path.{_≡_};
 ghost use mathlib.Core.Bool.{_||_, true};
-ghost use mathlib.Core.List.{map};
 ghost use Prim.Native.Nat.{_+_, _*_, _<_, _≤_};
 ghost use lib.Dec.{ltb};
 ghost use lib.IntN.{pos};
 ghost use lib.Signed.{leZ};
 ghost use lib.ListN.{length};
-ghost use Rattle.model.specs.Boxes.{collisionBox};
-ghost use Rattle.model.specs.Ground.{before, built};
-ghost use Rattle.stamps.specs.Stamps.{Framed, Adds, Counted, stops};
-ghost use Rattle.marks.specs.Marks.{Centers, Ready, Roomy, areas, blocked, blockedAt, frameOf, ground, markOf};
+ghost use Rattle.counts.specs.Counts.{ground};
+ghost use Rattle.marks.specs.Marks.{Centers, Ready, Roomy, areas, blockedAt, frameOf, markOf};
 ghost use Rattle.marks.specs.Passes.{Row, Part, Settled};
 
 // The mark of a center that so many blockers of the ground and of the plan cover.
@@ -87,59 +84,6 @@ fn frame_of(window: PixelRect) -> Frame
     }
 }
 
-// Stamps what stops a mover before the plan.
-fn stamp_ground(
-    grid: &mut [u32],
-    frame: Frame,
-    mover: CollisionBounds,
-    cells: &[u8],
-    words: &[i32],
-    width: usize,
-    height: usize,
-)
-    requires { ⌜ Framed frame (now grid) ⌝ }
-    requires { ⌜ (width ≤ 1024) × (height ≤ 1024) × (length (now cells) ≡ width * height) × (length (now words) ≤ 32768) ⌝ }
-    ensures { λ _. ⌜ Adds (frame .width) (frame .height) 1056772 (blocked (ground width height (now (cells .entry)) (now (words .entry))) frame mover (before (ground width height (now (cells .entry)) (now (words .entry))))) (now (grid .entry)) (now (grid .exit)) ⌝ }
-{
-    stamps::stamp_map_edge(grid, frame, mover, width, height);
-    stamps::stamp_terrain_blockers(grid, frame, mover, cells, width, height);
-    stamps::stamp_obstacles(grid, frame, mover, words);
-}
-
-// Counts what stops a mover before the plan.
-pub fn count_ground(
-    grid: &mut [u32],
-    frame: Frame,
-    mover: CollisionBounds,
-    cells: &[u8],
-    words: &[i32],
-    width: usize,
-    height: usize,
-)
-    requires { ⌜ Framed frame (now grid) ⌝ }
-    requires { ⌜ (width ≤ 1024) × (height ≤ 1024) × (length (now cells) ≡ width * height) × (length (now words) ≤ 32768) ⌝ }
-    ensures { λ _. ⌜ Counted (frame .width) (frame .height) (blocked (ground width height (now (cells .entry)) (now (words .entry))) frame mover (before (ground width height (now (cells .entry)) (now (words .entry))))) (now (grid .entry)) (now (grid .exit)) ⌝ }
-{
-    let stride = frame.width + 1;
-    let rows = frame.height + 1;
-    grid::clear(grid, rows * stride);
-    stamp_ground(grid, frame, mover, cells, words, width, height);
-    grid::finish(grid, stride, rows);
-}
-
-// Counts the plan's collision boxes.
-pub fn count_plan(grid: &mut [u32], frame: Frame, mover: CollisionBounds, plan: Plan)
-    requires { ⌜ Framed frame (now grid) ⌝ }
-    requires { ⌜ plan .count ≤ 32 ⌝ }
-    ensures { λ _. ⌜ Counted (frame .width) (frame .height) (stops frame mover (map collisionBox (built plan))) (now (grid .entry)) (now (grid .exit)) ⌝ }
-{
-    let stride = frame.width + 1;
-    let rows = frame.height + 1;
-    grid::clear(grid, rows * stride);
-    stamps::stamp_plan(grid, frame, mover, plan);
-    grid::finish(grid, stride, rows);
-}
-
 // Marks the window's centers from finished counts, those before the plan first and those after it behind them, and clears the counts.
 fn settle(base: &mut [u32], planned: &mut [u32], marks: &mut [u8], width: usize, height: usize)
     requires { ⌜ (height * width + height * width ≤ length (now marks)) × ((height + 1) * (width + 1) ≤ length (now base)) × ((height + 1) * (width + 1) ≤ length (now planned)) ⌝ }
@@ -172,7 +116,7 @@ pub fn mark_centers(
     let frame = frame_of(window);
     let w = frame.width;
     let h = frame.height;
-    count_ground(
+    counts::count_ground(
         base,
         frame,
         mover,
@@ -181,6 +125,6 @@ pub fn mark_centers(
         width as usize,
         height as usize,
     );
-    count_plan(planned, frame, mover, plan);
+    counts::count_plan(planned, frame, mover, plan);
     settle(base, planned, marks, w, h);
 }

@@ -1,7 +1,7 @@
 -- Laws of `some` and `among`: some number of a range passes a test. Assumes nothing.
 use mathlib.Core.Path.{_≡_, refl, ap, subst, sym, _∙_}
 use mathlib.Core.Bool.{Bool, true, false, _||_}
-use mathlib.Core.List.{List, [], _∷_}
+use mathlib.Core.List.{List, [], _∷_, map}
 use mathlib.Core.Logic.{_⊎_, inl, inr}
 use Prim.Native.Nat.{ℕ, zero, suc, _+_, _-_, _≤_, _<_}
 use native.Mathlib.Omega.{arith}
@@ -129,3 +129,9 @@ module _ {A : Type 0} (test : A → Bool) (d : A) where
   any-among l =
       both-ways (any test l) (among 0 (length l) (λ k. test (getD l k d))) (λ t. passed (λ k. test (getD l k d)) (place l t))
       (λ t. (let p = passing (λ k. test (getD l k d)) 0 (length l) t in element l (p .number) (p .high) (p .passes)))
+
+-- some element of a mapped list
+pub any-map : {A B : Type 0} (test : B → Bool) (f : A → B) (l : List A) → any test (map f l) ≡ any (λ a. test (f a)) l
+unfolding any
+any-map test f [] = refl
+any-map test f (a ∷ l) = ap (λ (t : Bool). test (f a) || t) (any-map test f l)

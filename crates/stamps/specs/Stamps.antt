@@ -1,18 +1,17 @@
 -- What stamping blockers into a difference grid promises. The grid of a window of w by h centers has a column and a row more.
 -- Where P speaks of the window's columns and rows, a stamped grid covers exactly the places where P holds. Assumes nothing.
 use mathlib.Core.Path.{_≡_}
-use mathlib.Core.Bool.{Bool, false, not, _&&_, _||_}
-use mathlib.Core.List.{List, map}
-use Prim.Native.Nat.{ℕ, zero, suc, _+_, _-_, _*_, _/_, _%_, _^_, _≤_, _<_, min}
+use mathlib.Core.Bool.{Bool, false, not, _||_}
+use mathlib.Core.List.{List}
+use Prim.Native.Nat.{ℕ, zero, suc, _+_, _-_, _*_, _^_, _≤_, _<_, min}
 use lib.Dec.{leb, ltb}
 use lib.IntN.{pos}
 use lib.ListN.{length, getD, drop}
 use Rattle.numbers.specs.Integers.{up, dn}
 use Rattle.model.specs.declared.PixelRect.{PixelRect}
 use Rattle.model.specs.declared.CollisionBounds.{CollisionBounds}
-use Rattle.model.specs.Lists.{any, places}
-use Rattle.model.specs.Boxes.{meets, around, inMap, cellBox}
-use Rattle.model.specs.Ground.{walkable}
+use Rattle.model.specs.Lists.{any}
+use Rattle.model.specs.Boxes.{meets, around, inMap}
 use Rattle.grid.specs.Grid.{Differences}
 use Rattle.stamps.specs.declared.Frame.{Frame}
 use Rattle.stamps.specs.declared.Raised.{Raised}
@@ -47,6 +46,10 @@ pub record Framed (f : Frame) (grid : List ℕ) : Type 0 where
 abbrev pub stop : Frame → CollisionBounds → PixelRect → ℕ → ℕ → Bool
 stop f m b x y = meets (around m (f .left + x) (f .top + y)) b
 
+-- some box of a list stops the mover
+abbrev pub stops : Frame → CollisionBounds → List PixelRect → ℕ → ℕ → Bool
+stops f m boxes x y = any (meets (around m (f .left + x) (f .top + y))) boxes
+
 -- r is b carried up by 2 ^ 32
 pub record Carried (b : PixelRect) (r : Raised) : Type 0 where
   pub left : r .left + dn (b .left) ≡ 4294967296 + up (b .left)
@@ -57,55 +60,6 @@ pub record Carried (b : PixelRect) (r : Raised) : Type 0 where
 -- the centers of an axis from which a mover reaches a blocker that lies from lo up to hi, both carried up by 2 ^ 32, as offsets into size centers from start on
 abbrev pub clipped : ℕ → ℕ → ℕ → ℕ → ℕ → ℕ → Span
 clipped lo hi before after start size = record { from = lo - (4294967296 + after + start); to = min (hi + before - (4294967296 + start)) size }
-
--- some number from a up to, not including, b passes the test
-unfoldable pub some : ℕ → ℕ → (ℕ → Bool) → Bool
-some a zero test = false
-some a (suc n) test = some a n test || test (a + n)
-
-abbrev pub among : ℕ → ℕ → (ℕ → Bool) → Bool
-among a b test = some a (b - a) test
-
--- the rectangle with these sides
-abbrev pub flat : ℕ → ℕ → ℕ → ℕ → PixelRect
-flat l t r b = record { left = pos l; top = pos t; right = pos r; bottom = pos b }
-
--- the walk cell in column c and row r
-abbrev pub cellAt : ℕ → ℕ → PixelRect
-cellAt c r = flat (8 * c) (8 * r) (8 * c + 8) (8 * r + 8)
-
--- of the cells from column a up to b of row r, some one stops the mover, or some unwalkable one
-abbrev pub runStops : Frame → CollisionBounds → ℕ → ℕ → ℕ → ℕ → ℕ → Bool
-runStops f m r a b x y = among a b (λ c. stop f m (cellAt c r) x y)
-
-abbrev pub rowStops : Frame → CollisionBounds → List ℕ → ℕ → ℕ → ℕ → ℕ → ℕ → ℕ → Bool
-rowStops f m cells width r a b x y = among a b (λ c. not (walkable (getD cells (r * width + c) 0)) && stop f m (cellAt c r) x y)
-
--- r is the first place from at on whose cell's walkable bit is as wanted, or end
-pub record NextCell (cells : List ℕ) (at end wanted r : ℕ) : Type 0 where
-  pub from : at ≤ r
-  pub within : r ≤ end
-  pub before : (k : ℕ) → at ≤ k → k < r → getD cells k 0 / 16 % 2 ≡ wanted → ⊥
-  pub found : r < end → getD cells r 0 / 16 % 2 ≡ wanted
-
--- the columns or rows of cells, of so many, that a mover reaches from size centers from start on
-abbrev pub reachOf : ℕ → ℕ → ℕ → ℕ → ℕ → Span
-reachOf start size before after cells =
-    record { from = min ((start - before) / 8) (min ((start + size + after + 7) / 8) cells); to = min ((start + size + after + 7) / 8) cells }
-
--- some box of a list stops the mover
-abbrev pub stops : Frame → CollisionBounds → List PixelRect → ℕ → ℕ → Bool
-stops f m boxes x y = any (meets (around m (f .left + x) (f .top + y))) boxes
-
--- the boxes of the unwalkable cells
-abbrev pub unwalkable : ℕ → List ℕ → List PixelRect
-unwalkable width cells = map (cellBox width) (places (λ i c. not (walkable c)) cells)
-
--- r is b carried up, and stays below 2 ^ 62
-pub record Lifted (b : PixelRect) (r : Raised) : Type 0 where
-  pub carried : Carried b r
-  pub right : r .right < 2 ^ 62
-  pub bottom : r .bottom < 2 ^ 62
 
 -- the centers of an axis, of size from start on, at which a mover lies within so many cells
 abbrev pub innerOf : ℕ → ℕ → ℕ → ℕ → ℕ → Span
@@ -118,3 +72,15 @@ outside columns rows x y = ltb x (columns .from) || leb (columns .to) x || ltb y
 -- the mover's box leaves the map
 abbrev pub leaves : Frame → CollisionBounds → ℕ → ℕ → ℕ → ℕ → Bool
 leaves f m width height x y = not (inMap width height (around m (f .left + x) (f .top + y)))
+
+-- some number from a up to, not including, b passes the test
+unfoldable pub some : ℕ → ℕ → (ℕ → Bool) → Bool
+some a zero test = false
+some a (suc n) test = some a n test || test (a + n)
+
+abbrev pub among : ℕ → ℕ → (ℕ → Bool) → Bool
+among a b test = some a (b - a) test
+
+-- the rectangle with these sides
+abbrev pub flat : ℕ → ℕ → ℕ → ℕ → PixelRect
+flat l t r b = record { left = pos l; top = pos t; right = pos r; bottom = pos b }

@@ -4,7 +4,7 @@ use native.Mathlib.Omega.{arith}
 use native.Mathlib.Nat.{mul-comm}
 use borrow.Author.Needs.{needs}
 use Rattle.model.specs.Boxes.{widthOf, heightOf}
-use Rattle.marks.specs.Marks.{ground}
+use Rattle.counts.specs.Counts.{ground}
 use Rattle.marks.proofs.Windows.{across-le, down-le}
 use Rattle.marks.proofs.Showing.{ready-sides, framed, shown}
 use Rattle.marks.proofs.mark_centers.Statement.{statement}

@@ -1,0 +1,134 @@
+// How many blockers stop a mover at each center of the window: those of the ground, which are the map's edge, the unwalkable cells and the obstacles,
+// in one grid, and the plan's collision boxes in another.
+use model::CollisionBounds;
+use model::Plan;
+use model::WallBuilding;
+use stamps::CARRY;
+use stamps::Frame;
+use stamps::Raised;
+ghost use mathlib.Core.Path.{_≡_};
+ghost use mathlib.Core.List.{map};
+ghost use Prim.Native.Nat.{_+_, _*_, _<_, _≤_};
+ghost use lib.ListN.{length};
+ghost use Rattle.model.specs.Boxes.{collisionBox};
+ghost use Rattle.model.specs.Ground.{rects, before, built};
+ghost use Rattle.model.proofs.Lists.{rectAt};
+ghost use Rattle.stamps.specs.Stamps.{Framed, Adds, Counted, stops};
+ghost use Rattle.counts.specs.Counts.{Lifted, blocked, ground};
+
+// What `biased` leaves of it to add.
+const HALF: u64 = 2147483648;
+
+// The rectangle of the four words from at on, carried up.
+fn raised_at(words: &[i32], at: usize) -> Raised
+    requires { ⌜ at + 4 ≤ length (now words) ⌝ }
+    ensures { λ r. ⌜ Lifted (rectAt (now (words .entry)) at) r ⌝ }
+{
+    Raised {
+        left: numbers::biased(words[at]) + HALF,
+        top: numbers::biased(words[at + 1]) + HALF,
+        right: numbers::biased(words[at + 2]) + HALF,
+        bottom: numbers::biased(words[at + 3]) + HALF,
+    }
+}
+
+// Stamps the obstacles, which may lie off the map.
+pub fn stamp_obstacles(grid: &mut [u32], frame: Frame, mover: CollisionBounds, words: &[i32])
+    requires { ⌜ Framed frame (now grid) ⌝ }
+    requires { ⌜ length (now words) ≤ 32768 ⌝ }
+    ensures { λ _. ⌜ Adds (frame .width) (frame .height) 8192 (stops frame mover (rects (now (words .entry)))) (now (grid .entry)) (now (grid .exit)) ⌝ }
+{
+    let count = words.len() / 4;
+    let mut i = 0;
+    while i < count {
+        let obstacle = raised_at(words, 4 * i);
+        stamps::stamp_expanded(grid, frame, mover, obstacle);
+        i += 1;
+    }
+}
+
+// A building's collision box, carried up: it surrounds the center of the footprint as a mover's box does.
+fn raised_collision(building: WallBuilding) -> Raised
+    ensures { λ r. ⌜ Lifted (collisionBox building) r ⌝ }
+{
+    let tile = building.tile;
+    let footprint = building.footprint;
+    let collision = building.collision;
+    let x = CARRY + 32 * tile.x as u64 + 16 * footprint.width_tiles as u64;
+    let y = CARRY + 32 * tile.y as u64 + 16 * footprint.height_tiles as u64;
+    Raised {
+        left: x - collision.left as u64,
+        top: y - collision.top as u64,
+        right: x + collision.right as u64 + 1,
+        bottom: y + collision.bottom as u64 + 1,
+    }
+}
+
+// Stamps the plan's collision boxes, those of badly placed buildings too.
+pub fn stamp_plan(grid: &mut [u32], frame: Frame, mover: CollisionBounds, plan: Plan)
+    requires { ⌜ Framed frame (now grid) ⌝ }
+    requires { ⌜ plan .count ≤ 32 ⌝ }
+    ensures { λ _. ⌜ Adds (frame .width) (frame .height) 32 (stops frame mover (map collisionBox (built plan))) (now (grid .entry)) (now (grid .exit)) ⌝ }
+{
+    let count = plan.count;
+    let mut i = 0;
+    while i < count {
+        let building = plan.buildings[i];
+        let body = raised_collision(building);
+        stamps::stamp_expanded(grid, frame, mover, body);
+        i += 1;
+    }
+}
+
+// Stamps what stops a mover before the plan.
+fn stamp_ground(
+    grid: &mut [u32],
+    frame: Frame,
+    mover: CollisionBounds,
+    cells: &[u8],
+    words: &[i32],
+    width: usize,
+    height: usize,
+)
+    requires { ⌜ Framed frame (now grid) ⌝ }
+    requires { ⌜ (width ≤ 1024) × (height ≤ 1024) × (length (now cells) ≡ width * height) × (length (now words) ≤ 32768) ⌝ }
+    ensures { λ _. ⌜ Adds (frame .width) (frame .height) 1056772 (blocked (ground width height (now (cells .entry)) (now (words .entry))) frame mover (before (ground width height (now (cells .entry)) (now (words .entry))))) (now (grid .entry)) (now (grid .exit)) ⌝ }
+{
+    stamps::stamp_map_edge(grid, frame, mover, width, height);
+    terrain::stamp_terrain_blockers(grid, frame, mover, cells, width, height);
+    stamp_obstacles(grid, frame, mover, words);
+}
+
+// Counts what stops a mover before the plan.
+pub fn count_ground(
+    grid: &mut [u32],
+    frame: Frame,
+    mover: CollisionBounds,
+    cells: &[u8],
+    words: &[i32],
+    width: usize,
+    height: usize,
+)
+    requires { ⌜ Framed frame (now grid) ⌝ }
+    requires { ⌜ (width ≤ 1024) × (height ≤ 1024) × (length (now cells) ≡ width * height) × (length (now words) ≤ 32768) ⌝ }
+    ensures { λ _. ⌜ Counted (frame .width) (frame .height) (blocked (ground width height (now (cells .entry)) (now (words .entry))) frame mover (before (ground width height (now (cells .entry)) (now (words .entry))))) (now (grid .entry)) (now (grid .exit)) ⌝ }
+{
+    let stride = frame.width + 1;
+    let rows = frame.height + 1;
+    grid::clear(grid, rows * stride);
+    stamp_ground(grid, frame, mover, cells, words, width, height);
+    grid::finish(grid, stride, rows);
+}
+
+// Counts the plan's collision boxes.
+pub fn count_plan(grid: &mut [u32], frame: Frame, mover: CollisionBounds, plan: Plan)
+    requires { ⌜ Framed frame (now grid) ⌝ }
+    requires { ⌜ plan .count ≤ 32 ⌝ }
+    ensures { λ _. ⌜ Counted (frame .width) (frame .height) (stops frame mover (map collisionBox (built plan))) (now (grid .entry)) (now (grid .exit)) ⌝ }
+{
+    let stride = frame.width + 1;
+    let rows = frame.height + 1;
+    grid::clear(grid, rows * stride);
+    stamp_plan(grid, frame, mover, plan);
+    grid::finish(grid, stride, rows);
+}
