@@ -1,6 +1,10 @@
 -- The laws of the definitions, and the theorems: one input admits one answer, and the tables hold.
 pub mod Lists
 pub mod Lines
+pub mod Places
+pub mod Words
+pub mod Valid
+pub mod Enough
 pub mod Chains
 pub mod Verdicts
 pub mod Reading

@@ -1,0 +1,3 @@
+-- Laws that the proofs of the stages cite.
+pub mod Searches
+pub mod Runs
