@@ -1,52 +1,23 @@
 -- Some rectangle of the words, and some building of a plan, by their places. Assumes nothing.
-use mathlib.Core.Path.{_≡_, refl, sym, ap, _∙_}
+use mathlib.Core.Path.{_≡_, refl, ap, _∙_}
 use mathlib.Core.Bool.{Bool}
 use mathlib.Core.List.{List, [], _∷_, map}
-use Prim.Native.Nat.{ℕ, zero, suc, _+_, _*_, _/_, _≤_, _<_}
+use Prim.Native.Nat.{ℕ, zero, suc, _/_, _≤_, _<_}
 use native.Mathlib.Omega.{arith}
-use lib.IntN.{ℤ, pos}
+use lib.IntN.{ℤ}
 use lib.ListN.{length, getD, take}
 use lib.Seq.{getD-take, length-take-le}
 use Rattle.model.specs.Lists.{any}
 use Rattle.model.specs.declared.PixelRect.{PixelRect}
 use Rattle.model.specs.declared.WallBuilding.{WallBuilding}
 use Rattle.model.specs.Ground.{rects}
-use Rattle.model.proofs.Lists.{rects-length, rectAt}
+use Rattle.model.proofs.Lists.{rects-length}
 use Rattle.stamps.specs.Stamps.{among}
 use Rattle.stamps.proofs.Some.{any-map, any-among, among-same}
 
--- four words on
-skip-four : (l t r b : ℤ) (rest : List ℤ) (i j : ℕ) (z : ℤ) → i ≡ j + 4 → getD (l ∷ t ∷ r ∷ b ∷ rest) i z ≡ getD rest j z
-skip-four l t r b rest i j z e = let h : i ≡ suc (suc (suc (suc j))) = omega arith in rw h refl
-
-rect-path : {a b c d a' b' c' d' : ℤ} → a ≡ a' → b ≡ b' → c ≡ c' → d ≡ d'
-    → _≡_ {A = PixelRect} (record { left = a; top = b; right = c; bottom = d }) (record { left = a'; top = b'; right = c'; bottom = d' })
-rect-path p q r s = λ i. record { left = p i; top = q i; right = r i; bottom = s i }
-
--- the rectangle k of the words
-rects-at : (ws : List ℤ) (k : ℕ) (d : PixelRect) → k < length (rects ws) → getD (rects ws) k d ≡ rectAt ws (4 * k)
-unfolding rects
-rects-at [] k d h = absurd (omega arith)
-rects-at (l ∷ []) k d h = absurd (omega arith)
-rects-at (l ∷ t ∷ []) k d h = absurd (omega arith)
-rects-at (l ∷ t ∷ r ∷ []) k d h = absurd (omega arith)
-rects-at (l ∷ t ∷ r ∷ b ∷ rest) zero d h = refl
-rects-at (l ∷ t ∷ r ∷ b ∷ rest) (suc k) d h =
-    rects-at rest k d (omega arith)
-    ∙ rect-path
-    (sym (skip-four l t r b rest (4 * suc k) (4 * k) (pos 0) (omega arith)))
-    (sym (skip-four l t r b rest (4 * suc k + 1) (4 * k + 1) (pos 0) (omega arith)))
-    (sym (skip-four l t r b rest (4 * suc k + 2) (4 * k + 2) (pos 0) (omega arith)))
-    (sym (skip-four l t r b rest (4 * suc k + 3) (4 * k + 3) (pos 0) (omega arith)))
-
 -- some rectangle of the words passes the test
-pub any-rects : (test : PixelRect → Bool) (ws : List ℤ) → any test (rects ws) ≡ among 0 (length ws / 4) (λ k. test (rectAt ws (4 * k)))
-any-rects test ws =
-    any-among test none (rects ws) ∙ among-same (λ k. test (getD (rects ws) k none)) (λ k. test (rectAt ws (4 * k))) 0 (length (rects ws)) (λ k l u. ap test (rects-at ws k none u))
-    ∙ ap (λ (n : ℕ). among 0 n (λ k. test (rectAt ws (4 * k)))) (rects-length ws)
-  where
-    none : PixelRect
-    none = rectAt [] 0
+pub any-rects : (test : PixelRect → Bool) (d : PixelRect) (ws : List ℤ) → any test (rects ws) ≡ among 0 (length ws / 4) (λ k. test (getD (rects ws) k d))
+any-rects test d ws = any-among test d (rects ws) ∙ ap (λ (n : ℕ). among 0 n (λ k. test (getD (rects ws) k d))) (rects-length ws)
 
 -- some element of the first n of a mapped list passes the test
 pub any-first : {A B : Type 0} (test : B → Bool) (f : A → B) (d : A) (n : ℕ) (l : List A) → n ≤ length l → any test (map f (take n l)) ≡ among 0 n (λ k. test (f (getD l k d)))

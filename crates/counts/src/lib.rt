@@ -1,6 +1,7 @@
 // How many blockers stop a mover at each center of the window: those of the ground, which are the map's edge, the unwalkable cells and the obstacles,
 // in one grid, and the plan's collision boxes in another.
 use model::CollisionBounds;
+use model::PixelRect;
 use model::Plan;
 use model::WallBuilding;
 use stamps::CARRY;
@@ -12,23 +13,21 @@ ghost use Prim.Native.Nat.{_+_, _*_, _<_, _≤_};
 ghost use lib.ListN.{length};
 ghost use Rattle.model.specs.Boxes.{collisionBox};
 ghost use Rattle.model.specs.Ground.{rects, before, built};
-ghost use Rattle.model.proofs.Lists.{rectAt};
 ghost use Rattle.stamps.specs.Stamps.{Framed, Adds, Counted, stops};
 ghost use Rattle.counts.specs.Counts.{Lifted, blocked, ground};
 
 // What `biased` leaves of it to add.
 const HALF: u64 = 2147483648;
 
-// The rectangle of the four words from at on, carried up.
-fn raised_at(words: &[i32], at: usize) -> Raised
-    requires { ⌜ at + 4 ≤ length (now words) ⌝ }
-    ensures { λ r. ⌜ Lifted (rectAt (now (words .entry)) at) r ⌝ }
+// A rectangle carried up.
+fn raised(rect: PixelRect) -> Raised
+    ensures { λ r. ⌜ Lifted rect r ⌝ }
 {
     Raised {
-        left: numbers::biased(words[at]) + HALF,
-        top: numbers::biased(words[at + 1]) + HALF,
-        right: numbers::biased(words[at + 2]) + HALF,
-        bottom: numbers::biased(words[at + 3]) + HALF,
+        left: numbers::biased(rect.left) + HALF,
+        top: numbers::biased(rect.top) + HALF,
+        right: numbers::biased(rect.right) + HALF,
+        bottom: numbers::biased(rect.bottom) + HALF,
     }
 }
 
@@ -41,8 +40,8 @@ pub fn stamp_obstacles(grid: &mut [u32], frame: Frame, mover: CollisionBounds, w
     let count = words.len() / 4;
     let mut i = 0;
     while i < count {
-        let obstacle = raised_at(words, 4 * i);
-        stamps::stamp_expanded(grid, frame, mover, obstacle);
+        let obstacle = boxes::obstacle_at(words, i);
+        stamps::stamp_expanded(grid, frame, mover, raised(obstacle));
         i += 1;
     }
 }

@@ -21,12 +21,14 @@ use Rattle.model.specs.Ground.{Ground, before, after, built, free, passable}
 use Rattle.model.specs.Areas.{cleared}
 use Rattle.model.specs.RouteTest.{TestAreas}
 use Rattle.model.proofs.Shifted.{Agree}
+use Rattle.model.proofs.Valid.{Windowed, Valid}
+use Rattle.model.specs.declared.WallQuery.{WallQuery}
 use Rattle.stamps.specs.Stamps.{Framed, Counted, stops}
 use Rattle.counts.specs.Counts.{blocked}
 use Rattle.counts.proofs.Blocking.{blocked-after}
 use Rattle.marks.specs.Marks.{markOf, Unmarked, Shows, Shown, Centers, Ready, areas, frameOf}
 use Rattle.marks.specs.Passes.{covered, Settled}
-use Rattle.marks.proofs.Windows.{Sides, sides, left, top, holds-center, center-held, far-right, far-bottom}
+use Rattle.marks.proofs.Windows.{left, top, holds-center, center-held}
 
 -- ---- what a mark of 0 says
 unmarked : (t : Bool) → markOf (not t) ≡ 0 → T t
@@ -37,7 +39,7 @@ zero-mark : (t : Bool) → T t → markOf (not t) ≡ 0
 zero-mark true h = refl
 zero-mark false h = absurd h
 
-module _ (g : Ground) (window : PixelRect) (m : CollisionBounds) (boxes : List PixelRect) (marks : List ℕ) (s : Sides (g .width) (g .height) window) (k : Shows g window m boxes marks) where
+module _ (g : Ground) (window : PixelRect) (m : CollisionBounds) (boxes : List PixelRect) (marks : List ℕ) (s : Windowed (g .width) (g .height) window) (k : Shows g window m boxes marks) where
   -- within the window a center that is free may be passed
   inside : (x y : ℕ) → x < widthOf window → y < heightOf window → passable g window m boxes (left window + x) (top window + y) ≡ free g m boxes (left window + x) (top window + y)
   unfolding passable
@@ -67,17 +69,25 @@ module _ (g : Ground) (window : PixelRect) (m : CollisionBounds) (boxes : List P
           subst (λ (b : ℕ). T (passable g window m boxes (left window + (x - left window)) b)) ey (subst (λ (a : ℕ). T (passable g window m boxes a y)) ex f) in
           (i .0, i .2, (u, v, k .mark (x - left window) (y - top window) u v ∙ zero-mark (passable g window m boxes (left window + (x - left window)) (top window + (y - top window))) t))
 
+-- ---- a query that the checks accept is ready
+pub valid-ready : (g : Ground) (q : WallQuery) → Valid g q → Ready g (q .window) (q .plan)
+valid-ready g q v = record {
+  wide = v .width-small;
+  high = v .height-small;
+  cells = v .cells;
+  words = omega (arith, v .words, v .few);
+  count = v .count;
+  window = v .window;
+}
+
 -- ---- the window's frame
 module _ (g : Ground) (window : PixelRect) (p : Plan) (ready : Ready g window p) where
-  pub ready-sides : Sides (g .width) (g .height) window
-  ready-sides = sides (g .width) (g .height) window (ready .solid) (ready .inside)
-
   pub framed : (area : List ℕ) → (widthOf window + 1) * (heightOf window + 1) ≤ length area → Framed (frameOf window) area
   framed area h = record {
-    left = omega (arith, far-right ready-sides);
-    top = omega (arith, far-bottom ready-sides);
-    width = omega (arith, far-right ready-sides);
-    height = omega (arith, far-bottom ready-sides);
+    left = omega (arith, ready .window .right-in);
+    top = omega (arith, ready .window .bottom-in);
+    width = omega (arith, ready .window .right-in);
+    height = omega (arith, ready .window .bottom-in);
     room = omega (arith, mul-comm (widthOf window + 1) (heightOf window + 1));
   }
 
@@ -90,7 +100,7 @@ module _ (g : Ground) (window : PixelRect) (p : Plan) (ready : Ready g window p)
     passed : (boxes : List PixelRect) (x y : ℕ) → x < widthOf window → y < heightOf window
         → markOf (blocked g (frameOf window) m boxes x y) ≡ markOf (not (passable g window m boxes (left window + x) (top window + y)))
     unfolding passable
-    passed boxes x y hx hy = rw (holds-center ready-sides x y hx hy)
+    passed boxes x y hx hy = rw (holds-center (ready .window) x y hx hy)
 
     pub marks-shown : Shown g window m p (was .marks) (now .marks)
     marks-shown = record {

@@ -1,7 +1,7 @@
 -- Marks: what the byte of a center says, and what marking the centers of a window promises. How a mark is stored is known here, and in `mark_of` and `is_blocked`.
 -- Assumes nothing.
 use mathlib.Core.Path.{_≡_}
-use mathlib.Core.Bool.{Bool, true, false, not}
+use mathlib.Core.Bool.{Bool, not}
 use mathlib.Core.List.{List}
 use Prim.Native.Nat.{ℕ, _+_, _*_, _≤_, _<_}
 use lib.Dec.{eqb}
@@ -11,11 +11,12 @@ use Rattle.numbers.proofs.Places.{one-if}
 use Rattle.model.specs.declared.PixelRect.{PixelRect}
 use Rattle.model.specs.declared.CollisionBounds.{CollisionBounds}
 use Rattle.model.specs.declared.Plan.{Plan}
-use Rattle.model.specs.Boxes.{inMap, widthOf, heightOf}
+use Rattle.model.specs.Boxes.{widthOf, heightOf}
 use Rattle.model.specs.Ground.{Ground, before, after, built, passable}
-use Rattle.model.specs.Refusal.{hollow, cellCap, obstacleCap, buildingCap}
+use Rattle.model.specs.Refusal.{cellCap, obstacleCap, buildingCap}
 use Rattle.model.specs.Areas.{differenceRoom, markRoom, centerRoom, cleared}
 use Rattle.model.specs.RouteTest.{TestAreas}
+use Rattle.model.proofs.Valid.{Windowed}
 use Rattle.stamps.specs.declared.Frame.{Frame}
 
 -- the mark of a center: 1 where it is blocked, else 0
@@ -58,14 +59,13 @@ pub record Centers (g : Ground) (window : PixelRect) (m : CollisionBounds) (p : 
   pub plan : now .plan ≡ cleared (differenceRoom window) (was .plan)
 
 -- What the checks before it have shown: the map, the obstacles and the plan are within the caps, and the window is one of the map.
-pub record Ready (g : Ground) (window : PixelRect) (plan : Plan) : Type 0 where
+pub record Ready (g : Ground) (w : PixelRect) (plan : Plan) : Type 0 where
   pub wide : g .width ≤ cellCap
   pub high : g .height ≤ cellCap
   pub cells : length (g .cells) ≡ g .width * g .height
   pub words : length (g .words) ≤ 4 * obstacleCap
   pub count : plan .count ≤ buildingCap
-  pub solid : hollow window ≡ false
-  pub inside : inMap (g .width) (g .height) window ≡ true
+  pub window : Windowed (g .width) (g .height) w
 
 -- The areas 3 to 5 have room.
 pub record Roomy (window : PixelRect) (was : TestAreas) : Type 0 where

@@ -5,11 +5,10 @@ use model::PixelRect;
 use model::Plan;
 use stamps::Frame;
 ghost use mathlib.Core.Path.{_≡_};
-ghost use mathlib.Core.Bool.{_||_, true};
+ghost use mathlib.Core.Bool.{_||_};
 ghost use Prim.Native.Nat.{_+_, _*_, _<_, _≤_};
 ghost use lib.Dec.{ltb};
-ghost use lib.IntN.{pos};
-ghost use lib.Signed.{leZ};
+ghost use lib.IntN.{pos, natAbs};
 ghost use lib.ListN.{length};
 ghost use Rattle.counts.specs.Counts.{ground};
 ghost use Rattle.marks.specs.Marks.{Centers, Ready, Roomy, areas, blockedAt, frameOf, markOf};
@@ -70,17 +69,14 @@ fn blocked_centers(
 
 // The window's corner and its size.
 fn frame_of(window: PixelRect) -> Frame
-    requires { ⌜ (leZ (pos 0) (window .left) ≡ true) × (leZ (pos 0) (window .top) ≡ true) ⌝ }
-    requires { ⌜ (leZ (window .left) (window .right) ≡ true) × (leZ (window .top) (window .bottom) ≡ true) ⌝ }
+    requires { ⌜ (window .left ≡ pos (natAbs (window .left))) × (window .top ≡ pos (natAbs (window .top))) ⌝ }
     ensures { λ r. ⌜ r ≡ frameOf window ⌝ }
 {
-    let left = numbers::biased(window.left);
-    let top = numbers::biased(window.top);
     Frame {
-        left: left - 2147483648,
-        top: top - 2147483648,
-        width: (numbers::biased(window.right) - left) as usize,
-        height: (numbers::biased(window.bottom) - top) as usize,
+        left: numbers::biased(window.left) - 2147483648,
+        top: numbers::biased(window.top) - 2147483648,
+        width: boxes::width(window),
+        height: boxes::height(window),
     }
 }
 

@@ -1,10 +1,11 @@
 -- `counts::stamp_obstacles` meets its contract. The invariant: the first i obstacles are stamped. Assumes nothing.
 use mathlib.Core.Path.{_≡_, refl, sym, ap, _∙_}
-use Prim.Native.Nat.{ℕ, _*_, _/_, _-_, _≤_}
+use Prim.Native.Nat.{ℕ, _/_, _-_, _≤_}
 use native.Mathlib.Omega.{arith}
-use lib.ListN.{length}
+use lib.ListN.{length, getD}
 use borrow.Author.Needs.{needs}
-use Rattle.model.proofs.Lists.{rectAt}
+use Rattle.model.specs.Check.{noRect}
+use Rattle.model.specs.Ground.{rects}
 use Rattle.stamps.specs.Stamps.{Adds, among, stop}
 use Rattle.stamps.proofs.Adding.{adds-start, adds-next, adds-same}
 use Rattle.counts.proofs.Listed.{any-rects}
@@ -13,7 +14,7 @@ use Rattle.counts.proofs.stamp_obstacles.Tie as tie
 
 abbrev Inv-loop : tie.InvT-loop
 Inv-loop grid₀ frame mover words count i₀ grid i =
-    (i ≤ count) × (length grid ≡ length grid₀) × Adds (frame .width) (frame .height) i (λ x y. among 0 i (λ k. stop frame mover (rectAt words (4 * k)) x y)) grid₀ grid
+    (i ≤ count) × (length grid ≡ length grid₀) × Adds (frame .width) (frame .height) i (λ x y. among 0 i (λ k. stop frame mover (getD (rects words) k noRect) x y)) grid₀ grid
 
 abbrev μ-loop : tie.MeasureT-loop
 μ-loop grid₀ frame mover words count i₀ grid i = count - i
@@ -21,13 +22,13 @@ abbrev μ-loop : tie.MeasureT-loop
 loop-holds : tie.Need-loop-holds Inv-loop μ-loop
 loop-holds c =
     let a = c .before .args in
-    (omega arith, refl, adds-start (λ k x y. stop (a .frame) (a .mover) (rectAt (a .words .now) (4 * k)) x y) 0 (a .grid .now))
+    (omega arith, refl, adds-start (λ k x y. stop (a .frame) (a .mover) (getD (rects (a .words .now)) k noRect) x y) 0 (a .grid .now))
 
-mul-raised-at : tie.Need-mul-raised-at Inv-loop μ-loop
-mul-raised-at c = omega arith
+obstacle-at-requires : tie.Need-obstacle-at-requires Inv-loop μ-loop
+obstacle-at-requires c κs = omega arith
 
-raised-at-requires : tie.Need-raised-at-requires Inv-loop μ-loop
-raised-at-requires c κs = omega arith
+raised-requires : tie.Need-raised-requires Inv-loop μ-loop
+raised-requires c κs = search needs
 
 stamp-expanded-requires : tie.Need-stamp-expanded-requires Inv-loop μ-loop
 stamp-expanded-requires c κs = search needs
@@ -40,13 +41,14 @@ loop-less c = omega arith
 
 loop-again : tie.Need-loop-again Inv-loop μ-loop
 loop-again c =
-    let a = c .before .before .before .before .before .before .before .before .args in
-    let l = c .before .before .before .before .before .before .loop in
-    let r = c .before .before .before .before .raised-at in (
+    let a = c .before .before .before .before .before .before .before .before .before .args in
+    let l = c .before .before .before .before .before .before .before .loop in
+    let r = c .before .before .before .raised in
+    let o = c .before .before .before .before .before .obstacle-at in (
       omega arith,
       c .before .before .stamp-expanded .kept .0 ∙ l .inv .1,
-      adds-next (λ k x y. stop (a .frame) (a .mover) (rectAt (a .words .now) (4 * k)) x y) 0 (l .i) (omega arith) (l .inv .2)
-          (c .before .before .stamp-expanded .ensures (rectAt (a .words .now) (4 * l .i)) (r .ensures .carried)),
+      adds-next (λ k x y. stop (a .frame) (a .mover) (getD (rects (a .words .now)) k noRect) x y) 0 (l .i) (omega arith) (l .inv .2)
+          (c .before .before .stamp-expanded .ensures (getD (rects (a .words .now)) (l .i) noRect) (rw (o .ensures) at (r .ensures .carried))),
     )
 
 same-length : tie.Need-same-length Inv-loop μ-loop
@@ -59,8 +61,8 @@ returns c =
     let all : l .i ≡ length (a .words .now) / 4 = omega arith in
     adds-same (omega arith)
     (λ x y hx hy.
-    ap (λ (n : ℕ). among 0 n (λ k. stop (a .frame) (a .mover) (rectAt (a .words .now) (4 * k)) x y)) all
-    ∙ sym (any-rects (λ o. stop (a .frame) (a .mover) o x y) (a .words .now)))
+    ap (λ (n : ℕ). among 0 n (λ k. stop (a .frame) (a .mover) (getD (rects (a .words .now)) k noRect) x y)) all
+    ∙ sym (any-rects (λ o. stop (a .frame) (a .mover) o x y) noRect (a .words .now)))
     (l .inv .2)
 
 pub stamp-obstacles-spec : {M : Type 1} → statement M
@@ -70,8 +72,8 @@ stamp-obstacles-spec =
     Inv-loop
     μ-loop
     loop-holds
-    mul-raised-at
-    raised-at-requires
+    obstacle-at-requires
+    raised-requires
     stamp-expanded-requires
     add-i
     loop-less

@@ -5,17 +5,12 @@ use native.Mathlib.Nat.{mul-comm}
 use borrow.Author.Needs.{needs}
 use Rattle.model.specs.Boxes.{widthOf, heightOf}
 use Rattle.counts.specs.Counts.{ground}
-use Rattle.marks.proofs.Windows.{across-le, down-le}
-use Rattle.marks.proofs.Showing.{ready-sides, framed, shown}
+use Rattle.marks.proofs.Showing.{framed, shown}
 use Rattle.marks.proofs.mark_centers.Statement.{statement}
 use Rattle.marks.proofs.mark_centers.Tie as tie
 
 frame-of-requires : tie.Need-frame-of-requires
-frame-of-requires c κs =
-    let s = c .before .before .before .before in
-    let a = s .args in
-    let k = ready-sides (ground (a .width) (a .height) (a .cells .now) (a .words .now)) (a .window) (a .plan) (s .pre .0) in
-    ((k .left-in, k .top-in), (across-le k, down-le k))
+frame-of-requires c κs = let r = c .before .before .before .before .pre .0 in (r .window .left, r .window .top)
 
 count-ground-requires : tie.Need-count-ground-requires
 count-ground-requires c κs =
