@@ -7,16 +7,16 @@ use model::WallBuilding;
 use stamps::CARRY;
 use stamps::Frame;
 use stamps::Raised;
-ghost use mathlib.Core.Path.{_≡_};
 ghost use mathlib.Core.List.{map};
-ghost use Prim.Native.Nat.{_+_, _*_, _<_, _≤_};
+ghost use Prim.Native.Nat.{_*_, _≤_};
 ghost use lib.ListN.{length};
 ghost use Rattle.model.specs.Boxes.{collisionBox};
-ghost use Rattle.model.specs.Ground.{rects, before, built};
-ghost use Rattle.stamps.specs.Stamps.{Framed, Adds, Counted, stops};
-ghost use Rattle.counts.specs.Counts.{Lifted, blocked, ground};
+ghost use Rattle.model.specs.Ground.{rects, built};
+ghost use Rattle.model.specs.Refusal.{obstacleCap, buildingCap};
+ghost use Rattle.stamps.specs.Stamps.{Framed, Adds, Counted, stop, stops};
+ghost use Rattle.counts.specs.Counts.{Lifted, Surveyed, blockedBefore, ground, groundCap};
 
-// What `biased` leaves of it to add.
+// `biased` carries up by 2^31; this much more makes CARRY.
 const HALF: u64 = 2147483648;
 
 // A rectangle carried up.
@@ -34,8 +34,8 @@ fn raised(rect: PixelRect) -> Raised
 // Stamps the obstacles, which may lie off the map.
 pub fn stamp_obstacles(grid: &mut [u32], frame: Frame, mover: CollisionBounds, words: &[i32])
     requires { ⌜ Framed frame (now grid) ⌝ }
-    requires { ⌜ length (now words) ≤ 32768 ⌝ }
-    ensures { λ _. ⌜ Adds (frame .width) (frame .height) 8192 (stops frame mover (rects (now (words .entry)))) (now (grid .entry)) (now (grid .exit)) ⌝ }
+    requires { ⌜ length (now words) ≤ 4 * obstacleCap ⌝ }
+    ensures { λ _. ⌜ Adds (frame .width) (frame .height) obstacleCap (stops frame mover (rects (now (words .entry)))) (now (grid .entry)) (now (grid .exit)) ⌝ }
 {
     let count = words.len() / 4;
     let mut i = 0;
@@ -63,18 +63,31 @@ fn raised_collision(building: WallBuilding) -> Raised
     }
 }
 
-// Stamps the plan's collision boxes, those of badly placed buildings too.
+// Stamps a building's collision box.
+pub fn stamp_building(
+    grid: &mut [u32],
+    frame: Frame,
+    mover: CollisionBounds,
+    building: WallBuilding,
+)
+    requires { ⌜ Framed frame (now grid) ⌝ }
+    ensures { λ _. ⌜ Adds (frame .width) (frame .height) 1 (stop frame mover (collisionBox building)) (now (grid .entry)) (now (grid .exit)) ⌝ }
+{
+    let body = raised_collision(building);
+    stamps::stamp_expanded(grid, frame, mover, body);
+}
+
+// Stamps the plan's buildings, badly placed ones too.
 pub fn stamp_plan(grid: &mut [u32], frame: Frame, mover: CollisionBounds, plan: Plan)
     requires { ⌜ Framed frame (now grid) ⌝ }
-    requires { ⌜ plan .count ≤ 32 ⌝ }
-    ensures { λ _. ⌜ Adds (frame .width) (frame .height) 32 (stops frame mover (map collisionBox (built plan))) (now (grid .entry)) (now (grid .exit)) ⌝ }
+    requires { ⌜ plan .count ≤ buildingCap ⌝ }
+    ensures { λ _. ⌜ Adds (frame .width) (frame .height) buildingCap (stops frame mover (map collisionBox (built plan))) (now (grid .entry)) (now (grid .exit)) ⌝ }
 {
     let count = plan.count;
     let mut i = 0;
     while i < count {
         let building = plan.buildings[i];
-        let body = raised_collision(building);
-        stamps::stamp_expanded(grid, frame, mover, body);
+        stamp_building(grid, frame, mover, building);
         i += 1;
     }
 }
@@ -90,8 +103,8 @@ fn stamp_ground(
     height: usize,
 )
     requires { ⌜ Framed frame (now grid) ⌝ }
-    requires { ⌜ (width ≤ 1024) × (height ≤ 1024) × (length (now cells) ≡ width * height) × (length (now words) ≤ 32768) ⌝ }
-    ensures { λ _. ⌜ Adds (frame .width) (frame .height) 1056772 (blocked (ground width height (now (cells .entry)) (now (words .entry))) frame mover (before (ground width height (now (cells .entry)) (now (words .entry))))) (now (grid .entry)) (now (grid .exit)) ⌝ }
+    requires { ⌜ Surveyed (ground width height (now cells) (now words)) ⌝ }
+    ensures { λ _. ⌜ Adds (frame .width) (frame .height) groundCap (blockedBefore (ground width height (now (cells .entry)) (now (words .entry))) frame mover) (now (grid .entry)) (now (grid .exit)) ⌝ }
 {
     stamps::stamp_map_edge(grid, frame, mover, width, height);
     terrain::stamp_terrain_blockers(grid, frame, mover, cells, width, height);
@@ -109,8 +122,8 @@ pub fn count_ground(
     height: usize,
 )
     requires { ⌜ Framed frame (now grid) ⌝ }
-    requires { ⌜ (width ≤ 1024) × (height ≤ 1024) × (length (now cells) ≡ width * height) × (length (now words) ≤ 32768) ⌝ }
-    ensures { λ _. ⌜ Counted (frame .width) (frame .height) (blocked (ground width height (now (cells .entry)) (now (words .entry))) frame mover (before (ground width height (now (cells .entry)) (now (words .entry))))) (now (grid .entry)) (now (grid .exit)) ⌝ }
+    requires { ⌜ Surveyed (ground width height (now cells) (now words)) ⌝ }
+    ensures { λ _. ⌜ Counted (frame .width) (frame .height) (blockedBefore (ground width height (now (cells .entry)) (now (words .entry))) frame mover) (now (grid .entry)) (now (grid .exit)) ⌝ }
 {
     let stride = frame.width + 1;
     let rows = frame.height + 1;
@@ -122,7 +135,7 @@ pub fn count_ground(
 // Counts the plan's collision boxes.
 pub fn count_plan(grid: &mut [u32], frame: Frame, mover: CollisionBounds, plan: Plan)
     requires { ⌜ Framed frame (now grid) ⌝ }
-    requires { ⌜ plan .count ≤ 32 ⌝ }
+    requires { ⌜ plan .count ≤ buildingCap ⌝ }
     ensures { λ _. ⌜ Counted (frame .width) (frame .height) (stops frame mover (map collisionBox (built plan))) (now (grid .entry)) (now (grid .exit)) ⌝ }
 {
     let stride = frame.width + 1;

@@ -1,5 +1,5 @@
 -- The marks and the definitions. `shown`: counts that are above zero where a blocker stops the mover leave marks that say which centers are free.
--- `free-exactly`: what a mark says of its center. `marks-agree`: the marks have the routes of the definitions. Assumes nothing.
+-- `marks-agree`: the marks have the routes of the definitions. `center-marks`, at the end: what the marks say of each center. Assumes nothing.
 use mathlib.Core.Path.{_≡_, refl, sym, ap, subst, _∙_}
 use mathlib.Core.Bool.{Bool, true, false, not, _||_}
 use mathlib.Core.List.{List, map, _++_}
@@ -9,7 +9,7 @@ use native.Mathlib.Nat.{mul-comm}
 use native.Mathlib.Omega.{arith}
 use lib.Dec.{T, ltb}
 use lib.IntN.{pos}
-use lib.ListN.{length, getD, drop, replicate}
+use lib.ListN.{length, getD, take, drop, replicate}
 use lib.Seq.{getD-take, getD-drop}
 use Rattle.numbers.proofs.Places.{row-below}
 use Rattle.numbers.proofs.Tests.{left-of}
@@ -45,7 +45,7 @@ module _ (g : Ground) (window : PixelRect) (m : CollisionBounds) (boxes : List P
   unfolding passable
   inside x y hx hy = rw (holds-center s x y hx hy)
 
-  -- The theorem of this crate: the mark of each center of the window is 0 exactly when the center is free.
+  -- the mark of each center of the window is 0 exactly when the center is free
   pub free-exactly : (x y : ℕ) → x < widthOf window → y < heightOf window → (getD marks (y * widthOf window + x) 0 ≡ 0) ↔ T (free g m boxes (left window + x) (top window + y))
   free-exactly x y hx hy =
       let e : getD marks (y * widthOf window + x) 0 ≡ markOf (not (free g m boxes (left window + x) (top window + y))) = k .mark x y hx hy ∙ ap (λ (t : Bool). markOf (not t)) (inside x y hx hy) in
@@ -72,10 +72,7 @@ module _ (g : Ground) (window : PixelRect) (m : CollisionBounds) (boxes : List P
 -- ---- a query that the checks accept is ready
 pub valid-ready : (g : Ground) (q : WallQuery) → Valid g q → Ready g (q .window) (q .plan)
 valid-ready g q v = record {
-  wide = v .width-small;
-  high = v .height-small;
-  cells = v .cells;
-  words = omega (arith, v .words, v .few);
+  ground = record { wide = v .width-small; high = v .height-small; cells = v .cells; words = omega (arith, v .words, v .few) };
   count = v .count;
   window = v .window;
 }
@@ -84,10 +81,10 @@ valid-ready g q v = record {
 module _ (g : Ground) (window : PixelRect) (p : Plan) (ready : Ready g window p) where
   pub framed : (area : List ℕ) → (widthOf window + 1) * (heightOf window + 1) ≤ length area → Framed (frameOf window) area
   framed area h = record {
-    left = omega (arith, ready .window .right-in);
-    top = omega (arith, ready .window .bottom-in);
-    width = omega (arith, ready .window .right-in);
-    height = omega (arith, ready .window .bottom-in);
+    left = omega (arith, ready .window .right-in, ready .ground .wide);
+    top = omega (arith, ready .window .bottom-in, ready .ground .high);
+    width = omega (arith, ready .window .right-in, ready .ground .wide);
+    height = omega (arith, ready .window .bottom-in, ready .ground .high);
     room = omega (arith, mul-comm (widthOf window + 1) (heightOf window + 1));
   }
 
@@ -141,3 +138,18 @@ module _ (g : Ground) (window : PixelRect) (p : Plan) (ready : Ready g window p)
 
     pub shown : Centers g window m p (areas base plan (was .marks)) now
     shown = record { marks = marks-shown; base = left-zero base (was .base) (now .base) (settled .base) (ground-count .rest); plan = left-zero plan (was .plan) (now .plan) (settled .plan) (plan-count .rest) }
+
+-- The theorem of this crate. At every center of the window the first mark is 0 exactly when the center is free before the plan, and the second exactly
+-- when it is free after it.
+pub center-marks : (g : Ground) (window : PixelRect) (m : CollisionBounds) (p : Plan) (was now : TestAreas) → Ready g window p → Centers g window m p was now
+    → (x y : ℕ) → x < widthOf window → y < heightOf window
+    → ((getD (now .marks) (y * widthOf window + x) 0 ≡ 0) ↔ T (free g m (before g) (left window + x) (top window + y)))
+    × ((getD (now .marks) (widthOf window * heightOf window + (y * widthOf window + x)) 0 ≡ 0) ↔ T (free g m (after g (built p)) (left window + x) (top window + y)))
+center-marks g window m p was now ready c x y hx hy =
+    let w = widthOf window in
+    let h = heightOf window in
+    let low : y * w + x < w * h = omega (arith, row-below w x y h hx hy, mul-comm w h) in (
+      rw (getD-take (w * h) (now .marks) (y * w + x) 0 low) at (free-exactly g window m (before g) (take (w * h) (now .marks)) (ready .window) (c .marks .baseline) x y hx hy),
+      rw (getD-take (w * h) (drop (w * h) (now .marks)) (y * w + x) 0 low, getD-drop (w * h) (now .marks) (y * w + x) 0) at
+          (free-exactly g window m (after g (built p)) (take (w * h) (drop (w * h) (now .marks))) (ready .window) (c .marks .planned) x y hx hy),
+    )

@@ -13,11 +13,12 @@ use Rattle.model.specs.declared.CollisionBounds.{CollisionBounds}
 use Rattle.model.specs.declared.Plan.{Plan}
 use Rattle.model.specs.Boxes.{widthOf, heightOf}
 use Rattle.model.specs.Ground.{Ground, before, after, built, passable}
-use Rattle.model.specs.Refusal.{cellCap, obstacleCap, buildingCap}
+use Rattle.model.specs.Refusal.{buildingCap}
 use Rattle.model.specs.Areas.{differenceRoom, markRoom, centerRoom, cleared}
 use Rattle.model.specs.RouteTest.{TestAreas}
 use Rattle.model.proofs.Valid.{Windowed}
 use Rattle.stamps.specs.declared.Frame.{Frame}
+use Rattle.counts.specs.Counts.{Surveyed}
 
 -- the mark of a center: 1 where it is blocked, else 0
 abbrev pub markOf : Bool → ℕ
@@ -60,10 +61,7 @@ pub record Centers (g : Ground) (window : PixelRect) (m : CollisionBounds) (p : 
 
 -- What the checks before it have shown: the map, the obstacles and the plan are within the caps, and the window is one of the map.
 pub record Ready (g : Ground) (w : PixelRect) (plan : Plan) : Type 0 where
-  pub wide : g .width ≤ cellCap
-  pub high : g .height ≤ cellCap
-  pub cells : length (g .cells) ≡ g .width * g .height
-  pub words : length (g .words) ≤ 4 * obstacleCap
+  pub ground : Surveyed g
   pub count : plan .count ≤ buildingCap
   pub window : Windowed (g .width) (g .height) w
 

@@ -5,6 +5,7 @@ ghost use mathlib.Core.Path.{_≡_};
 ghost use Prim.Native.Nat.{_+_, _*_, _^_, _<_, _≤_};
 ghost use lib.ListN.{length};
 ghost use Rattle.model.specs.declared.PixelRect.{PixelRect};
+ghost use Rattle.model.specs.Refusal.{cellCap};
 ghost use Rattle.stamps.specs.Stamps.{Framed, Adds, Carried, clipped, stop, innerOf, outside, leaves};
 
 // Coordinates are carried up by this much, so that none that a blocker can have is negative.
@@ -116,7 +117,7 @@ pub fn stamp_map_edge(
     height: usize,
 )
     requires { ⌜ Framed frame (now grid) ⌝ }
-    requires { ⌜ (width ≤ 1024) × (height ≤ 1024) ⌝ }
+    requires { ⌜ (width ≤ cellCap) × (height ≤ cellCap) ⌝ }
     ensures { λ _. ⌜ Adds (frame .width) (frame .height) 4 (leaves frame mover width height) (now (grid .entry)) (now (grid .exit)) ⌝ }
 {
     let columns = inner(frame.left, frame.width, mover.left, mover.right, width);

@@ -9,6 +9,7 @@ use stamps::Span;
 ghost use mathlib.Core.Path.{_≡_};
 ghost use Prim.Native.Nat.{_+_, _*_, _^_, _<_, _≤_};
 ghost use lib.ListN.{length};
+ghost use Rattle.model.specs.Refusal.{cellCap};
 ghost use Rattle.stamps.specs.Stamps.{Framed, Adds, stops};
 ghost use Rattle.terrain.specs.Terrain.{NextCell, runStops, rowStops, reachOf, unwalkable};
 
@@ -102,8 +103,8 @@ pub fn stamp_terrain_blockers(
     height: usize,
 )
     requires { ⌜ Framed frame (now grid) ⌝ }
-    requires { ⌜ (width ≤ 1024) × (height ≤ 1024) × (length (now cells) ≡ width * height) ⌝ }
-    ensures { λ _. ⌜ Adds (frame .width) (frame .height) 1048576 (stops frame mover (unwalkable width (now (cells .entry)))) (now (grid .entry)) (now (grid .exit)) ⌝ }
+    requires { ⌜ (width ≤ cellCap) × (height ≤ cellCap) × (length (now cells) ≡ width * height) ⌝ }
+    ensures { λ _. ⌜ Adds (frame .width) (frame .height) (cellCap * cellCap) (stops frame mover (unwalkable width (now (cells .entry)))) (now (grid .entry)) (now (grid .exit)) ⌝ }
 {
     let columns = reach(frame.left, frame.width, mover.left, mover.right, width);
     let rows = reach(frame.top, frame.height, mover.top, mover.bottom, height);

@@ -6,7 +6,7 @@ use lib.ListN.{length, length-map, getD}
 use borrow.Author.Needs.{needs}
 use Rattle.model.specs.declared.WallBuilding.{WallBuilding}
 use Rattle.model.specs.Boxes.{collisionBox}
-use Rattle.stamps.specs.Stamps.{Adds, Carried, among, stop}
+use Rattle.stamps.specs.Stamps.{Adds, among, stop}
 use Rattle.stamps.proofs.Adding.{adds-start, adds-next, adds-same}
 use Rattle.counts.proofs.Listed.{any-first, same-default, no-building}
 use Rattle.counts.proofs.stamp_plan.Statement.{statement}
@@ -34,11 +34,8 @@ mul-building c = omega arith
 element-copy-out-building : tie.Need-element-copy-out-building Inv-loop μ-loop
 element-copy-out-building c = search needs
 
-raised-collision-requires : tie.Need-raised-collision-requires Inv-loop μ-loop
-raised-collision-requires c κs = search needs
-
-stamp-expanded-requires : tie.Need-stamp-expanded-requires Inv-loop μ-loop
-stamp-expanded-requires c κs = search needs
+stamp-building-requires : tie.Need-stamp-building-requires Inv-loop μ-loop
+stamp-building-requires c κs = search needs
 
 add-i : tie.Need-add-i Inv-loop μ-loop
 add-i c = omega arith
@@ -48,14 +45,14 @@ loop-less c = omega arith
 
 loop-again : tie.Need-loop-again Inv-loop μ-loop
 loop-again c =
-    let a = c .before .before .before .before .before .before .before .before .before .args in
-    let l = c .before .before .before .before .before .before .before .loop in
-    let r = c .before .before .before .before .raised-collision in (
+    let a = c .before .before .before .before .before .before .before .before .args in
+    let l = c .before .before .before .before .before .before .loop in
+    let p = c .before .before .stamp-building in (
       omega arith,
-      c .before .before .stamp-expanded .kept .0 ∙ l .inv .1,
+      p .kept .0 ∙ l .inv .1,
       adds-next (λ k x y. stop (a .frame) (a .mover) (collisionBox (getD (a .t4 .buildings) k no-building)) x y) 0 (l .i) (omega arith) (l .inv .2)
-          (c .before .before .stamp-expanded .ensures (collisionBox (getD (a .t4 .buildings) (l .i) no-building))
-          (subst (λ (b : WallBuilding). Carried (collisionBox b) (r .result)) (same-default (a .t4 .buildings) (l .i) _ no-building (omega (arith, long (c .before .before .before .before .before .before .before .before .before)))) (r .ensures .carried))),
+          (subst (λ (o : WallBuilding). Adds (a .frame .width) (a .frame .height) 1 (stop (a .frame) (a .mover) (collisionBox o)) (l .grid) (p .last .0))
+          (same-default (a .t4 .buildings) (l .i) _ no-building (omega (arith, long (c .before .before .before .before .before .before .before .before)))) (p .ensures)),
     )
 
 same-length : tie.Need-same-length Inv-loop μ-loop
@@ -81,8 +78,7 @@ stamp-plan-spec =
     loop-holds
     mul-building
     element-copy-out-building
-    raised-collision-requires
-    stamp-expanded-requires
+    stamp-building-requires
     add-i
     loop-less
     loop-again

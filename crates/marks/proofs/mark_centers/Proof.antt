@@ -17,7 +17,7 @@ count-ground-requires c κs =
     let s = c .before .before .before .before .before .before in
     let a = s .args in
     let r = s .pre .0 in
-    rw (c .before .frame-of .ensures) (framed (ground (a .width) (a .height) (a .cells .now) (a .words .now)) (a .window) (a .plan) r (a .base .now) (s .pre .1 .base), (r .wide, r .high, r .cells, r .words))
+    rw (c .before .frame-of .ensures) (framed (ground (a .width) (a .height) (a .cells .now) (a .words .now)) (a .window) (a .plan) r (a .base .now) (s .pre .1 .base), r .ground)
 
 count-plan-requires : tie.Need-count-plan-requires
 count-plan-requires c κs =
