@@ -1,0 +1,48 @@
+-- A window of the map, by the naturals of its corner and its size. Assumes nothing.
+use mathlib.Core.Path.{_≡_, ap, subst, _∙_}
+use mathlib.Core.Bool.{true, _&&_}
+use Prim.Native.Nat.{ℕ, _+_, _≤_, _<_}
+use native.Mathlib.Omega.{arith}
+use lib.Dec.{T, leb, ltb, leb→le, ltb→lt}
+use lib.IntN.{pos, natAbs}
+use borrow.Author.Tests.{lt-ltb, le-leb}
+use Rattle.numbers.proofs.Tests.{left-of, right-of}
+use Rattle.model.specs.declared.PixelRect.{PixelRect}
+use Rattle.model.specs.Boxes.{holds, widthOf, heightOf}
+use Rattle.model.proofs.Valid.{Windowed}
+use Rattle.stamps.specs.Stamps.{flat}
+
+-- the window's corner, and what lies past its last column and row
+module _ (w : PixelRect) where
+  abbrev pub left : ℕ
+  left = natAbs (w .left)
+
+  abbrev pub top : ℕ
+  top = natAbs (w .top)
+
+module _ {width height : ℕ} {w : PixelRect} (s : Windowed width height w) where
+  -- the window by its corner and its size
+  corner-size : w ≡ flat (left w) (top w) (left w + widthOf w) (top w + heightOf w)
+  corner-size = λ i. record { left = s .left i; top = s .top i; right = s .right i; bottom = s .bottom i }
+
+  -- it holds its centers, and nothing else
+  pub holds-center : (x y : ℕ) → x < widthOf w → y < heightOf w → holds w (pos (left w + x)) (pos (top w + y)) ≡ true
+  unfolding holds
+  holds-center x y hx hy =
+      ap (λ (v : PixelRect). holds v (pos (left w + x)) (pos (top w + y))) corner-size
+      ∙ rw (le-leb (left w) (left w + x) (omega arith), lt-ltb (left w + x) (left w + widthOf w) (omega arith), le-leb (top w) (top w + y) (omega arith), lt-ltb (top w + y) (top w + heightOf w) (omega arith))
+
+  pub center-held : (x y : ℕ) → T (holds w (pos x) (pos y)) → (left w ≤ x) × (x < left w + widthOf w) × (top w ≤ y) × (y < top w + heightOf w)
+  unfolding holds
+  center-held x y h = held (subst (λ (v : PixelRect). T (holds v (pos x) (pos y))) corner-size h)
+    where
+      held : T (holds (flat (left w) (top w) (left w + widthOf w) (top w + heightOf w)) (pos x) (pos y))
+          → (left w ≤ x) × (x < left w + widthOf w) × (top w ≤ y) × (y < top w + heightOf w)
+      held k =
+          let a = leb (left w) x in
+          let b = ltb x (left w + widthOf w) in
+          let c = leb (top w) y in
+          let d = ltb y (top w + heightOf w) in
+          let k3 = left-of (a && b && c) d k in
+          let k2 = left-of (a && b) c k3 in
+          (leb→le (left w) x (left-of a b k2), ltb→lt x (left w + widthOf w) (right-of a b k2), leb→le (top w) y (right-of (a && b) c k3), ltb→lt y (top w + heightOf w) (right-of (a && b && c) d k))
