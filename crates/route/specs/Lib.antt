@@ -1,0 +1,5 @@
+-- The root of the crate's definitions.
+pub mod Marks
+pub mod Places
+pub mod Search
+pub mod Answer

@@ -1,0 +1,153 @@
+// The route: a breadth-first search over the centers of a window.
+//
+// A center is known by its place, its row times the window's width plus its column. A mark is 0 at a free center. A
+// parent is 0 where a center has not been found, and its parent's place and 1 else. Each center enters the queue at
+// most once, so the queue never wraps.
+ghost use mathlib.Core.Path.{_≡_};
+ghost use mathlib.Core.List.{List};
+ghost use Prim.Native.Nat.{ℕ, _+_, _*_, _/_, _%_, _<_, _≤_};
+ghost use lib.ListN.{length, getD, replicate};
+ghost use Rattle.model.specs.Steps.{raised, pointWord};
+ghost use Rattle.model.specs.Areas.{cleared};
+ghost use Rattle.route.specs.Marks.{Unmarked};
+ghost use Rattle.route.specs.Places.{center, spot, Areas, Inner, Small, eastward, southward, ahead, Seen, Around, Allows};
+ghost use Rattle.route.specs.Search.{noted, Listed, Works, Bars, Tried, Trail, Led, Sought, Tracked, Written, Opens};
+ghost use Rattle.route.specs.Answer.{Clear, Window, Inside, Blank, Answers, Searched, Asked};
+use model::PixelPosition;
+
+pub enum Way {
+    Found(usize),
+    NoWay,
+}
+
+// Whether a search found the end, and how many entries of the queue it used.
+struct Seek {
+    found: bool,
+    used: usize,
+}
+
+// The eight steps. Their fixed order makes equivalent shortest routes deterministic.
+const STEPS: [[i32; 2]; 8] = [
+    [1, 0],
+    [0, 1],
+    [-1, 0],
+    [0, -1],
+    [1, 1],
+    [-1, 1],
+    [-1, -1],
+    [1, -1],
+];
+
+fn wide(x: u32) -> usize
+    ensures { λ r. ⌜ (r ≡ x) × (r < 4294967296) ⌝ }
+{
+    x as usize
+}
+
+fn byte(x: u8) -> usize
+    ensures { λ r. ⌜ (r ≡ x) × (r ≤ 255) ⌝ }
+{
+    x as usize
+}
+
+// The mark at place p: 0 where its center is free.
+fn mark(marks: &[u8], p: usize) -> usize
+    requires { ⌜ p < length (now marks) ⌝ }
+    ensures { λ r. ⌜ (r ≡ getD (now (marks .entry)) p 0) × (r ≤ 255) ⌝ }
+{
+    byte(marks[p])
+}
+
+// A move and one more, which is not negative.
+fn lifted(d: i32) -> usize
+    requires { ⌜ raised d ≤ 2 ⌝ }
+    ensures { λ r. ⌜ r ≡ raised d ⌝ }
+{
+    if d == 0 {
+        return 1;
+    }
+    if d == 1 {
+        return 2;
+    }
+    0
+}
+
+// The place that step d leads to from place p.
+fn step_from(w: usize, p: usize, d: [i32; 2]) -> usize
+    requires { ⌜ Small d ⌝ }
+    requires { ⌜ (w ≤ 1048576) × (p < 1048576) ⌝ }
+    requires { ⌜ w + 1 ≤ p + (eastward d + southward d * w) ⌝ }
+    ensures { λ r. ⌜ r ≡ ahead w p d ⌝ }
+{
+    p + (lifted(d[0]) + lifted(d[1]) * w) - (w + 1)
+}
+
+// The mark of the center that step d leads to from (x, y) at place p, and 1 where that is outside the window.
+fn neighbour(marks: &[u8], w: usize, h: usize, p: usize, x: usize, y: usize, d: [i32; 2]) -> usize
+    requires { ⌜ (w * h ≤ 1048576) × (w * h ≤ length (now marks)) ⌝ }
+    requires { ⌜ (p ≡ y * w + x) × (x < w) × (y < h) ⌝ }
+    requires { ⌜ Small d ⌝ }
+    ensures { λ r. ⌜ Seen (Unmarked (now (marks .entry)) w h) x y d r ⌝ }
+{
+    let east = x + lifted(d[0]);
+    if east == 0 {
+        return 1;
+    }
+    if east > w {
+        return 1;
+    }
+    let south = y + lifted(d[1]);
+    if south == 0 {
+        return 1;
+    }
+    if south > h {
+        return 1;
+    }
+    mark(marks, step_from(w, p, d))
+}
+
+// What the eight steps from (x, y) at place p lead to: 0 for a free center.
+fn around(marks: &[u8], w: usize, h: usize, p: usize, x: usize, y: usize) -> [usize; 8]
+    requires { ⌜ (w * h ≤ 1048576) × (w * h ≤ length (now marks)) ⌝ }
+    requires { ⌜ (p ≡ y * w + x) × (x < w) × (y < h) ⌝ }
+    ensures { λ r. ⌜ Around (Unmarked (now (marks .entry)) w h) x y r ⌝ }
+{
+    let mut seen = [0usize; 8];
+    for k in 0..8 {
+        let d = STEPS[k];
+        seen[k] = neighbour(marks, w, h, p, x, y, d);
+    }
+    seen
+}
+
+// The same for a center that is not at the window's edge.
+fn around_inner(marks: &[u8], w: usize, h: usize, p: usize, x: usize, y: usize) -> [usize; 8]
+    requires { ⌜ (w * h ≤ 1048576) × (w * h ≤ length (now marks)) ⌝ }
+    requires { ⌜ p ≡ y * w + x ⌝ }
+    requires { ⌜ Inner w h x y ⌝ }
+    ensures { λ r. ⌜ Around (Unmarked (now (marks .entry)) w h) x y r ⌝ }
+{
+    let mut seen = [0usize; 8];
+    for k in 0..8 {
+        let d = STEPS[k];
+        seen[k] = mark(marks, step_from(w, p, d));
+    }
+    seen
+}
+
+// Which steps a center allows, by what its steps lead to: 0 for a step that it allows. A diagonal one needs both sides free.
+fn barred(seen: [usize; 8]) -> [usize; 8]
+    requires { ⌜ ((k : ℕ) → k < 8 → getD seen k 0 ≤ 255) ⌝ }
+    ensures { λ r. ⌜ Allows seen r ⌝ }
+{
+    [
+        seen[0],
+        seen[1],
+        seen[2],
+        seen[3],
+        seen[4] + seen[0] + seen[1],
+        seen[5] + seen[2] + seen[1],
+        seen[6] + seen[2] + seen[3],
+        seen[7] + seen[0] + seen[3],
+    ]
+}
