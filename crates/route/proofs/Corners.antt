@@ -100,22 +100,27 @@ module _ {free : ℕ → ℕ → Type 0} {x y : ℕ} {around bars : List ℕ} (h
       ))
 
 -- the same of the place p
-pub bars-of : (marks : List ℕ) (w h p : ℕ) {around bars : List ℕ} → Unmarked marks w h (p % w) (p / w) → Around (Unmarked marks w h) (p % w) (p / w) around → Allows around bars
+pub bars-of : (marks : List ℕ) (w h p x y : ℕ) {around bars : List ℕ} → p ≡ y * w + x → Unmarked marks w h x y → Around (Unmarked marks w h) x y around → Allows around bars
     → Bars (Unmarked marks w h) w (w * h) p bars
-bars-of marks w h p here seen allows = record {
-  goes = λ k l z. let t = step-open here seen allows k l z in subst (Step (Unmarked marks w h) k (center w p)) (sym (there k (t .0) (t .1))) (t .1);
+bars-of marks w h p x y placed here seen allows = record {
+  goes = λ k l z.
+      let t = step-open here seen allows k l z in
+      subst₂ (Step (Unmarked marks w h) k) (sym origin-of) (sym (there k (t .0) (t .1))) (t .1);
   inside = λ k l z.
       let t = step-open here seen allows k l z in
       let m = lands k (t .0) (t .1) in
       (omega (arith, m), omega (arith, m, place-in w h (t .0 .x) (t .0 .y) (t .1 .to .0) (t .1 .to .1)));
-  only = open-step here seen allows;
+  only = λ k q t. open-step here seen allows k q (subst (λ (o : PixelPosition). Step (Unmarked marks w h) k o q) origin-of t);
   small = allows .small;
 }
   where
-    lands : (k : ℕ) (q : PixelPosition) → Step (Unmarked marks w h) k (center w p) q → p + (across k + down k * w) ≡ q .y * w + q .x + (w + 1)
-    lands k q t = ap (λ (n : ℕ). n + (across k + down k * w)) (sym (div-add-mod' p w)) ∙ landed w (p % w) (p / w) (across k) (down k) (q .x) (q .y) (t .moved-x) (t .moved-y)
+    origin-of : center w p ≡ record { x = x; y = y }
+    origin-of = ap (center w) placed ∙ center-place w x y (here .0)
 
-    there : (k : ℕ) (q : PixelPosition) → Step (Unmarked marks w h) k (center w p) q → center w (ahead w p (getD steps k [])) ≡ q
+    lands : (k : ℕ) (q : PixelPosition) → Step (Unmarked marks w h) k (record { x = x; y = y }) q → p + (across k + down k * w) ≡ q .y * w + q .x + (w + 1)
+    lands k q t = ap (λ (n : ℕ). n + (across k + down k * w)) placed ∙ landed w x y (across k) (down k) (q .x) (q .y) (t .moved-x) (t .moved-y)
+
+    there : (k : ℕ) (q : PixelPosition) → Step (Unmarked marks w h) k (record { x = x; y = y }) q → center w (ahead w p (getD steps k [])) ≡ q
     there k q t =
         let e : ahead w p (getD steps k []) ≡ q .y * w + q .x = omega (arith, lands k q t) in
         ap (center w) e ∙ center-place w (q .x) (q .y) (t .to .0)

@@ -2,3 +2,9 @@
 pub mod Centers
 pub mod Neighbours
 pub mod Corners
+pub mod Codes
+pub mod Frontier
+pub mod Noted
+pub mod Moves
+pub mod Trying
+pub mod Tracing

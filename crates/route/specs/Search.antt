@@ -84,6 +84,12 @@ pub record Bars (free : ℕ → ℕ → Type 0) (w n p : ℕ) (bars : List ℕ) 
   pub only : (k : ℕ) (q : PixelPosition) → Step free k (center w p) q → getD bars k 0 ≡ 0
   pub small : (k : ℕ) → k < 8 → getD bars k 0 ≤ 765
 
+-- The lists of a search whose queue ends at `tail`: as many places have a parent.
+pub record Growing (parents queue : List ℕ) (tail : ℕ) : Type 0 where
+  pub limit : length parents ≤ 1048576
+  pub as-long : length queue ≡ length parents
+  pub counted : noted parents ≡ tail
+
 -- Trying the place `next` from place p: nothing changes if it is barred or has been found, and else it is queued with its parent.
 pub record Tried (p next bar : ℕ) (queue parents : List ℕ) (tail : ℕ) (queue′ parents′ : List ℕ) (tail′ : ℕ) : Type 0 where
   pub old : 0 < getD parents next 0 + bar → (queue′ ≡ queue) × (parents′ ≡ parents) × (tail′ ≡ tail)

@@ -11,7 +11,7 @@ ghost use Rattle.model.specs.Steps.{raised, pointWord};
 ghost use Rattle.model.specs.Areas.{cleared};
 ghost use Rattle.route.specs.Marks.{Unmarked};
 ghost use Rattle.route.specs.Places.{center, spot, Areas, Inner, Small, eastward, southward, ahead, Seen, Around, Allows};
-ghost use Rattle.route.specs.Search.{noted, Listed, Works, Bars, Tried, Trail, Led, Sought, Tracked, Written, Opens};
+ghost use Rattle.route.specs.Search.{noted, Growing, Listed, Works, Bars, Tried, Trail, Led, Sought, Tracked, Written, Opens};
 ghost use Rattle.route.specs.Answer.{Clear, Window, Inside, Blank, Answers, Searched, Asked};
 use model::PixelPosition;
 
@@ -21,7 +21,7 @@ pub enum Way {
 }
 
 // Whether a search found the end, and how many entries of the queue it used.
-struct Seek {
+struct Ended {
     found: bool,
     used: usize,
 }
@@ -150,4 +150,173 @@ fn barred(seen: [usize; 8]) -> [usize; 8]
         seen[6] + seen[2] + seen[3],
         seen[7] + seen[0] + seen[3],
     ]
+}
+
+// Tries step d from place p to a place of the window: that is queued, with its parent, unless the step is barred or the
+// place has been found. Returns the queue's new end.
+fn try_step(
+    w: usize,
+    parents: &mut [u32],
+    queue: &mut [u32],
+    tail: usize,
+    p: usize,
+    d: [i32; 2],
+    bar: usize,
+) -> usize
+    requires { ⌜ Growing (now parents) (now queue) tail ⌝ }
+    requires { ⌜ Small d × (w ≤ 1048576) × (p < length (now parents)) × (bar ≤ 765) ⌝ }
+    requires { ⌜ (w + 1 ≤ p + (eastward d + southward d * w)) × (ahead w p d < length (now parents)) ⌝ }
+    ensures { λ r. ⌜ Tried p (ahead w p d) bar (now (queue .entry)) (now (parents .entry)) tail (now (queue .exit)) (now (parents .exit)) r ⌝ }
+{
+    let next = step_from(w, p, d);
+    // One sum and one test: two branches would be foretold worse.
+    if wide(parents[next]) + bar != 0 {
+        return tail;
+    }
+    parents[next] = (p + 1) as u32;
+    queue[tail] = next as u32;
+    tail + 1
+}
+
+// The same for a step that leads to a place of the window unless it is barred.
+fn try_edge_step(
+    w: usize,
+    parents: &mut [u32],
+    queue: &mut [u32],
+    tail: usize,
+    p: usize,
+    d: [i32; 2],
+    bar: usize,
+) -> usize
+    requires { ⌜ Growing (now parents) (now queue) tail ⌝ }
+    requires { ⌜ Small d × (w ≤ 1048576) × (p < length (now parents)) ⌝ }
+    requires { ⌜ (bar ≡ 0 → (w + 1 ≤ p + (eastward d + southward d * w)) × (ahead w p d < length (now parents))) ⌝ }
+    ensures { λ r. ⌜ Tried p (ahead w p d) bar (now (queue .entry)) (now (parents .entry)) tail (now (queue .exit)) (now (parents .exit)) r ⌝ }
+{
+    if bar != 0 {
+        return tail;
+    }
+    try_step(w, parents, queue, tail, p, d, bar)
+}
+
+// Tries the eight steps of the queue's entry `head`, at (x, y) and place p, in their order. Returns the queue's new end.
+fn expand_edge(
+    marks: &[u8],
+    w: usize,
+    h: usize,
+    parents: &mut [u32],
+    queue: &mut [u32],
+    head: usize,
+    tail: usize,
+    p: usize,
+    x: usize,
+    y: usize,
+) -> usize
+    requires { ⌜ Areas w h (now marks) (now parents) (now queue) ⌝ }
+    requires { ⌜ (head < tail) × (noted (now parents) ≡ tail) × (getD (now queue) head 0 ≡ p) ⌝ }
+    requires { ⌜ (p ≡ y * w + x) × Unmarked (now marks) w h x y ⌝ }
+    ensures { λ r. ⌜ Works (Unmarked (now (marks .entry)) w h) w head (now (queue .entry)) (now (parents .entry)) tail 0 (now (queue .exit)) (now (parents .exit)) r 8 ⌝ }
+{
+    let bars = barred(around(marks, w, h, p, x, y));
+    let mut end = tail;
+    for k in 0..8 {
+        let d = STEPS[k];
+        let bar = bars[k];
+        end = try_edge_step(w, parents, queue, end, p, d, bar);
+    }
+    end
+}
+
+// The same for an entry that is not at the window's edge.
+fn expand_inner(
+    marks: &[u8],
+    w: usize,
+    h: usize,
+    parents: &mut [u32],
+    queue: &mut [u32],
+    head: usize,
+    tail: usize,
+    p: usize,
+    x: usize,
+    y: usize,
+) -> usize
+    requires { ⌜ Areas w h (now marks) (now parents) (now queue) ⌝ }
+    requires { ⌜ (head < tail) × (noted (now parents) ≡ tail) × (getD (now queue) head 0 ≡ p) ⌝ }
+    requires { ⌜ (p ≡ y * w + x) × Unmarked (now marks) w h x y ⌝ }
+    requires { ⌜ Inner w h x y ⌝ }
+    ensures { λ r. ⌜ Works (Unmarked (now (marks .entry)) w h) w head (now (queue .entry)) (now (parents .entry)) tail 0 (now (queue .exit)) (now (parents .exit)) r 8 ⌝ }
+{
+    let bars = barred(around_inner(marks, w, h, p, x, y));
+    let mut end = tail;
+    for k in 0..8 {
+        let d = STEPS[k];
+        let bar = bars[k];
+        end = try_step(w, parents, queue, end, p, d, bar);
+    }
+    end
+}
+
+// Tries the eight steps of the queue's entry `head` in their order. Returns the queue's new end.
+fn expand(
+    marks: &[u8],
+    w: usize,
+    h: usize,
+    parents: &mut [u32],
+    queue: &mut [u32],
+    head: usize,
+    tail: usize,
+) -> usize
+    requires { ⌜ Areas w h (now marks) (now parents) (now queue) ⌝ }
+    requires { ⌜ (head < tail) × (noted (now parents) ≡ tail) ⌝ }
+    requires { ⌜ Unmarked (now marks) w h (getD (now queue) head 0 % w) (getD (now queue) head 0 / w) ⌝ }
+    ensures { λ r. ⌜ Works (Unmarked (now (marks .entry)) w h) w head (now (queue .entry)) (now (parents .entry)) tail 0 (now (queue .exit)) (now (parents .exit)) r 8 ⌝ }
+{
+    let p = wide(queue[head]);
+    let x = p % w;
+    let y = p / w;
+    if x > 0 {
+        if x + 1 < w {
+            if y > 0 {
+                if y + 1 < h {
+                    return expand_inner(marks, w, h, parents, queue, head, tail, p, x, y);
+                }
+            }
+        }
+    }
+    expand_edge(marks, w, h, parents, queue, head, tail, p, x, y)
+}
+
+// Searches from `start`, which is free, for `end`.
+fn seek(
+    marks: &[u8],
+    w: usize,
+    h: usize,
+    parents: &mut [u32],
+    queue: &mut [u32],
+    start: usize,
+    end: usize,
+) -> Ended
+    requires { ⌜ Areas w h (now marks) (now parents) (now queue) ⌝ }
+    requires { ⌜ (start < w * h) × Unmarked (now marks) w h (start % w) (start / w) ⌝ }
+    requires { ⌜ Blank (w * h) (now parents) × Blank (w * h) (now queue) ⌝ }
+    ensures { λ r. ⌜ Sought (Unmarked (now (marks .entry)) w h) w start end (w * h) (now (queue .exit)) (now (parents .exit)) (r .found) (r .used) ⌝ }
+{
+    parents[start] = (start + 1) as u32;
+    queue[0] = start as u32;
+    let mut head = 0;
+    let mut tail = 1;
+    while head < tail {
+        if wide(queue[head]) == end {
+            return Ended {
+                found: true,
+                used: tail,
+            };
+        }
+        tail = expand(marks, w, h, parents, queue, head, tail);
+        head += 1;
+    }
+    Ended {
+        found: false,
+        used: tail,
+    }
 }
