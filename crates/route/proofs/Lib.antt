@@ -8,3 +8,4 @@ pub mod Noted
 pub mod Moves
 pub mod Trying
 pub mod Tracing
+pub mod Zeros

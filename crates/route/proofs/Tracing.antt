@@ -10,6 +10,7 @@ use lib.ListN.{length, getD, set, drop, length-append, length-set, List·getD-eq
 use lib.Seq.{drop-cons, drop-set-lt, getD-set-same, drop-length}
 use Rattle.model.specs.Steps.{pointWord}
 use Rattle.route.specs.Places.{spot}
+use Rattle.route.proofs.Zeros.{some-in}
 use Rattle.route.specs.Search.{Trail, begin, back, Tracked, Written}
 
 module _ {parents : List ℕ} {s : ℕ} where
@@ -35,16 +36,9 @@ pub record Back (parents : List ℕ) (s q : ℕ) (qs : List ℕ) : Type 0 where
   pub last : qs ≡ ps ++ (q ∷ [])
   pub within : q < length parents
 
-linked-in : (parents : List ℕ) (q p : ℕ) → getD parents q 0 ≡ p + 1 → q < length parents
-linked-in parents q p l = split (decLt q (length parents))
-  where
-    split : Dec (q < length parents) → q < length parents
-    split (yes h) = h
-    split (no h) = let out : length parents ≤ q = omega arith in absurd (omega (arith, List·getD-eq-default parents 0 out))
-
 pub trail-back : {parents : List ℕ} {s q : ℕ} {qs : List ℕ} → Trail parents s q qs → (q ≡ s → ⊥) → Back parents s q qs
 trail-back begin n = absurd (n refl)
-trail-back {parents} (back {p = p} {q = q} {ps = ps} t m l) n = record { p = p; ps = ps; trail = t; link = l; last = refl; within = linked-in parents q p l }
+trail-back {parents} (back {p = p} {q = q} {ps = ps} t m l) n = record { p = p; ps = ps; trail = t; link = l; last = refl; within = some-in parents q (omega (arith, l)) }
 
 drop-write : (l : List ℕ) (j v : ℕ) → j < length l → drop j (set l j v) ≡ v ∷ drop (suc j) l
 drop-write l j v h =

@@ -29,6 +29,12 @@ pub record Inside (left top w h : ℕ) (p : PixelPosition) : Type 0 where
   pub north : top ≤ p .y
   pub south : p .y < top + h
 
+-- The lent areas are long enough for w by h centers.
+pub record Lent (w h : ℕ) (marks parents queue : List ℕ) : Type 0 where
+  pub marks-long : w * h ≤ length marks
+  pub parents-long : w * h ≤ length parents
+  pub queue-long : w * h ≤ length queue
+
 -- the first n places are zero
 abbrev pub Blank : ℕ → List ℕ → Type 0
 Blank n area = (i : ℕ) → i < n → getD area i 0 ≡ 0

@@ -9,6 +9,8 @@ use lib.ListN.{length, getD, set, drop}
 use Rattle.model.specs.declared.PixelPosition.{PixelPosition}
 use Rattle.model.specs.Steps.{steps, across, down, Step, Chain, Joined, IsRoute, pointWord}
 use Rattle.route.specs.Places.{center, spot, ahead}
+use Rattle.route.specs.declared.Way.{Way}
+use Rattle.route.specs.declared.Way.the-variants.{Found, NoWay}
 
 -- how many numbers are not zero
 abbrev pub noted : List ℕ → ℕ
@@ -132,3 +134,8 @@ pub record Opens (free : ℕ → ℕ → Type 0) (s e : PixelPosition) (r : Bool
   pub start : r ≡ true → free (s .x) (s .y)
   pub end : r ≡ true → free (e .x) (e .y)
   pub shut : r ≡ false → Joined free s e → ⊥
+
+-- What was written of a search's end: the way back if it found one, and else nothing.
+abbrev pub Told : List ℕ → ℕ → ℕ → ℕ → ℕ → ℕ → Bool → List ℕ → List ℕ → Way → Type 0
+Told parents s e left top w found before after (Found n) = (found ≡ true) × Written parents s e left top w n before after
+Told parents s e left top w found before after NoWay = (found ≡ false) × (after ≡ before)
