@@ -2,6 +2,7 @@
 pub mod Lists
 pub mod Lines
 pub mod Chains
+pub mod Ends
 pub mod Verdicts
 pub mod Reading
 pub mod Widened

@@ -9,3 +9,4 @@ pub mod Moves
 pub mod Trying
 pub mod Tracing
 pub mod Zeros
+pub mod Answering

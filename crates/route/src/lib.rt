@@ -507,3 +507,107 @@ fn chain_places(
     tidy(parents, queue, used);
     s.found
 }
+
+// The place of a position in the window of w by h centers at (left, top).
+fn local_index(position: PixelPosition, left: usize, top: usize, w: usize, h: usize) -> usize
+    requires { ⌜ Window left top w h × Inside left top w h position ⌝ }
+    ensures { λ r. ⌜ (r < w * h) × (spot left top w r ≡ position) ⌝ }
+{
+    let x = wide(position.x) - left;
+    let y = wide(position.y) - top;
+    y * w + x
+}
+
+// The route from `start` to `end` in the window of w by h centers at (left, top), by the window's marks. Its words stand
+// first in `out`. The working areas come as zeros, and are left as they came: a blocked end is seen before anything is
+// written, and only what a search used is cleared after it.
+pub fn find_route(
+    marks: &[u8],
+    w: usize,
+    h: usize,
+    left: usize,
+    top: usize,
+    parents: &mut [u32],
+    queue: &mut [u32],
+    out: &mut [u32],
+    start: PixelPosition,
+    end: PixelPosition,
+) -> Way
+    requires { ⌜ Window left top w h × Inside left top w h start × Inside left top w h end ⌝ }
+    requires { ⌜ Lent w h (now marks) (now parents) (now queue) × (w * h ≤ length (now out)) ⌝ }
+    requires { ⌜ Blank (w * h) (now parents) × Blank (w * h) (now queue) ⌝ }
+    ensures { λ r. ⌜ Searched (Clear (now (marks .entry)) left top w h) start end (now (parents .entry)) (now (parents .exit)) (now (queue .entry)) (now (queue .exit)) (now (out .entry)) (now (out .exit)) r ⌝ }
+{
+    let n = w * h;
+    let s = local_index(start, left, top, w, h);
+    let e = local_index(end, left, top, w, h);
+    route_places(marks, w, h, left, top, &mut parents[..n], &mut queue[..n], out, s, e)
+}
+
+// Whether a chain joins the ends, both free. The working areas come as zeros, and are left as they came.
+pub fn find_chain(
+    marks: &[u8],
+    w: usize,
+    h: usize,
+    left: usize,
+    top: usize,
+    parents: &mut [u32],
+    queue: &mut [u32],
+    start: PixelPosition,
+    end: PixelPosition,
+) -> bool
+    requires { ⌜ Window left top w h × Inside left top w h start × Inside left top w h end ⌝ }
+    requires { ⌜ Lent w h (now marks) (now parents) (now queue) ⌝ }
+    requires { ⌜ Blank (w * h) (now parents) × Blank (w * h) (now queue) ⌝ }
+    ensures { λ r. ⌜ Asked (Clear (now (marks .entry)) left top w h) start end (now (parents .entry)) (now (parents .exit)) (now (queue .entry)) (now (queue .exit)) r ⌝ }
+{
+    let n = w * h;
+    let s = local_index(start, left, top, w, h);
+    let e = local_index(end, left, top, w, h);
+    chain_places(marks, w, h, &mut parents[..n], &mut queue[..n], s, e)
+}
+
+// The same as find_route with working areas that come with anything and end as zeros up to w * h.
+pub fn route(
+    marks: &[u8],
+    w: usize,
+    h: usize,
+    left: usize,
+    top: usize,
+    parents: &mut [u32],
+    queue: &mut [u32],
+    out: &mut [u32],
+    start: PixelPosition,
+    end: PixelPosition,
+) -> Way
+    requires { ⌜ Window left top w h × Inside left top w h start × Inside left top w h end ⌝ }
+    requires { ⌜ Lent w h (now marks) (now parents) (now queue) × (w * h ≤ length (now out)) ⌝ }
+    ensures { λ r. ⌜ Searched (Clear (now (marks .entry)) left top w h) start end (cleared (w * h) (now (parents .entry))) (now (parents .exit)) (cleared (w * h) (now (queue .entry))) (now (queue .exit)) (now (out .entry)) (now (out .exit)) r ⌝ }
+{
+    let n = w * h;
+    clear(parents, n);
+    clear(queue, n);
+    find_route(marks, w, h, left, top, parents, queue, out, start, end)
+}
+
+// The same as find_chain with working areas that come with anything and end as zeros up to w * h.
+pub fn connected(
+    marks: &[u8],
+    w: usize,
+    h: usize,
+    left: usize,
+    top: usize,
+    parents: &mut [u32],
+    queue: &mut [u32],
+    start: PixelPosition,
+    end: PixelPosition,
+) -> bool
+    requires { ⌜ Window left top w h × Inside left top w h start × Inside left top w h end ⌝ }
+    requires { ⌜ Lent w h (now marks) (now parents) (now queue) ⌝ }
+    ensures { λ r. ⌜ Asked (Clear (now (marks .entry)) left top w h) start end (cleared (w * h) (now (parents .entry))) (now (parents .exit)) (cleared (w * h) (now (queue .entry))) (now (queue .exit)) r ⌝ }
+{
+    let n = w * h;
+    clear(parents, n);
+    clear(queue, n);
+    find_chain(marks, w, h, left, top, parents, queue, start, end)
+}

@@ -1,3 +1,11 @@
+-- `route::route_places` meets its contract. Assumes nothing.
+use mathlib.Core.Path.{_≡_, refl, _∙_}
+use Prim.Native.Nat.{ℕ, _*_}
+use native.Mathlib.Omega.{arith}
+use lib.ListN.{length}
+use denote.Ref.{now}
+use borrow.Author.Tests.{not-true, not-false}
+use Rattle.route.proofs.Answering.{shut-out, told-answer, zeros-again}
 use borrow.Author.Needs.{needs}
 use Rattle.route.proofs.route_places.Statement.{statement}
 use Rattle.route.proofs.route_places.Tie as tie
@@ -14,15 +22,28 @@ opens-requires c κs = search needs
 
 -- src/lib.rt:478:9
 returns : tie.Need-returns
-returns c = ?
+returns c =
+    let a = c .before .before .before .before .before .before .args in
+    record {
+      answer = shut-out (now (a .marks)) (a .left) (a .top) (a .w) (a .h) (a .start) (a .end) (now (a .out)) (c .before .opens .ensures .shut (not-true _ (c .if1 .taken)));
+      parents-left = refl;
+      queue-left = refl;
+    }
 
 -- src/lib.rt:480:9
 seek-requires : tie.Need-seek-requires
-seek-requires c κs = ?
+seek-requires c κs =
+    let e = c .before .before in
+    let pre = e .before .before .before .before .before .before .pre in
+    (pre .0, ((pre .1 .1 .0 .0, e .before .opens .ensures .start (not-false _ (e .if1 .left))), pre .1 .1 .1))
 
 -- src/lib.rt:481:9
 tell-requires : tie.Need-tell-requires
-tell-requires c κs = ?
+tell-requires c κs =
+    let k = c .before .before .before .before .before .before in
+    let pre = k .before .before .before .before .before .before .before .before .before .pre in
+    let long = k .seek .kept .1 .1 .1 .0 ∙ pre .0 .parents-long in
+    (pre .1 .0 .0, ((long, pre .1 .0 .1, pre .1 .1 .0 .0), λ t. let led = k .seek .ensures .leads t in (led .places, led .trail, omega (arith, led .short, long))))
 
 -- src/lib.rt:483:5
 tidy-requires : tie.Need-tidy-requires
@@ -42,7 +63,18 @@ same-length-3 c = search needs
 
 -- src/lib.rt:459:1
 returns-2 : tie.Need-returns-2
-returns-2 c = ?
+returns-2 c =
+    let t = c .before .before .before .before in
+    let v = t .before .before .before .before .before in
+    let k = v .before .before .before .before .before .before .before in
+    let o = k .before .before .before .before .before .before .before .before .before in
+    let a = o .args in
+    let n = a .w * a .h in
+    record {
+      answer = told-answer (now (a .marks)) (a .left) (a .top) (a .w) (a .h) (a .start) (a .end) (now (a .out)) _ (v .tell .result) (k .seek .ensures) (v .tell .ensures);
+      parents-left = zeros-again n _ (now (a .parents)) _ (o .pre .0 .parents-long) (o .pre .1 .1 .1 .0) (k .seek .kept .1 .1 .1 .0) (t .tidy .ensures .0);
+      queue-left = zeros-again n _ (now (a .queue)) _ (o .pre .0 .queue-long) (o .pre .1 .1 .1 .1) (k .seek .kept .1 .1 .1 .1 .0) (t .tidy .ensures .1);
+    }
 
 pub route-places-spec : {M : Type 1} → statement M
 route-places-spec =

@@ -1,3 +1,11 @@
+-- `route::tell` meets its contract. Assumes nothing.
+use mathlib.Core.Path.{_≡_, refl, ap}
+use mathlib.Core.Bool.{true}
+use native.Mathlib.Omega.{arith}
+use lib.ListN.{length}
+use denote.Ref.{now}
+use borrow.Author.Tests.{not-true, not-false}
+use Rattle.route.proofs.Tracing.{trail-one}
 use borrow.Author.Needs.{needs}
 use Rattle.route.proofs.tell.Statement.{statement}
 use Rattle.route.proofs.tell.Tie as tie
@@ -8,15 +16,20 @@ use Rattle.route.proofs.write_route.Reads as write-route-reads
 
 -- src/lib.rt:451:9
 returns : tie.Need-returns
-returns c = ?
+returns c = (not-true _ (c .if1 .taken), refl)
 
 -- src/lib.rt:453:9
 trail-length-requires : tie.Need-trail-length-requires
-trail-length-requires c κs = ?
+trail-length-requires c κs = c .before .before .before .pre .1 .1 (not-false _ (c .if1 .left))
 
 -- src/lib.rt:454:5
 write-route-requires : tie.Need-write-route-requires
-write-route-requires c κs = ?
+write-route-requires c κs =
+    let l = c .before in
+    let o = l .before .before .before .before in
+    let way = o .pre .1 .1 (not-false _ (l .before .if1 .left)) in
+    let told = l .trail-length .ensures in
+    (o .pre .0, ((o .pre .1 .0 .0, o .pre .1 .0 .2), (told, omega (arith, way .2, told .count, ap length (trail-one (way .1) (told .trail)), o .pre .1 .0))))
 
 -- src/lib.rt:434:1
 same-length : tie.Need-same-length
@@ -24,7 +37,9 @@ same-length c = search needs
 
 -- src/lib.rt:434:1
 returns-2 : tie.Need-returns-2
-returns-2 c = ?
+returns-2 c =
+    let v = c .before .before in
+    (not-false _ (v .before .before .before .if1 .left), v .write-route .ensures)
 
 pub tell-spec : {M : Type 1} → statement M
 tell-spec =
