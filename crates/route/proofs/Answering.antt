@@ -6,21 +6,23 @@ use Prim.Native.Nat.{ℕ, _+_, _*_, _-_, _/_, _%_, _<_, _≤_}
 use native.Mathlib.Nat.{div-add-mod'}
 use native.Mathlib.Omega.{arith}
 use lib.Dec.{eqb, T}
-use lib.ListN.{length, getD, drop, replicate, length-map}
+use lib.ListN.{length, getD, take, drop, replicate, length-map, length-take, take-append-drop}
+use lib.Seq.{getD-take}
 use borrow.Author.Tests.{eqb-true, eqb-false}
 use Rattle.model.specs.declared.PixelPosition.{PixelPosition}
 use Rattle.model.specs.Steps.{Chain, Joined, IsRoute, pointWord}
 use Rattle.model.specs.Passage.{Says}
 use Rattle.model.specs.Areas.{begun}
+use Rattle.model.proofs.Chains.{position-path}
 use Rattle.model.proofs.Ends.{route-joined}
 use Rattle.model.proofs.Shifted.{Agree, shift, route-out, joined-out, joined-back}
 use Rattle.route.specs.Marks.{Unmarked}
 use Rattle.route.specs.Places.{center, spot}
 use Rattle.route.specs.Search.{Sought, Opens, Written, Told}
-use Rattle.route.specs.Answer.{Clear, Shown, Shut, Answers, Blank}
+use Rattle.route.specs.Answer.{Clear, Inside, Shown, Shut, Answers, Blank}
 use Rattle.route.specs.declared.Way.{Way}
 use Rattle.route.specs.declared.Way.the-variants.{Found, NoWay}
-use Rattle.route.proofs.Centers.{center-in}
+use Rattle.route.proofs.Centers.{place-in, center-in, center-place}
 use Rattle.route.proofs.Tracing.{trail-one}
 use Rattle.route.proofs.Zeros.{all-blank, all-zeros}
 
@@ -91,3 +93,40 @@ module _ (marks : List ℕ) (left top w h s e : ℕ) where
 -- an area that came as zeros and ends as zeros ends as it came
 pub zeros-again : (n m : ℕ) (was now : List ℕ) → length was ≡ n → Blank n was → m ≡ length was → now ≡ replicate m 0 → now ≡ was
 zeros-again n m was now long blank e zeros = zeros ∙ ap (λ (k : ℕ). replicate k 0) e ∙ sym (all-zeros was (all-blank n was long blank))
+
+-- ---- positions and places
+module _ (left top w h : ℕ) (p : PixelPosition) (inside : Inside left top w h p) where
+  abbrev column : ℕ
+  column = p .x - left
+
+  abbrev row : ℕ
+  row = p .y - top
+
+  pub index-in : row * w + column < w * h
+  index-in = place-in w h column row (omega (arith, inside .west, inside .east)) (omega (arith, inside .north, inside .south))
+
+  pub index-spot : spot left top w (row * w + column) ≡ p
+  index-spot =
+      let c = center-place w column row (omega (arith, inside .west, inside .east)) in
+      let ex : (row * w + column) % w ≡ column = ap (λ (q : PixelPosition). q .x) c in
+      let ey : (row * w + column) / w ≡ row = ap (λ (q : PixelPosition). q .y) c in
+      position-path (omega (arith, ex, inside .west)) (omega (arith, ey, inside .north))
+
+module _ (marks : List ℕ) (left top w h s e : ℕ) {start end : PixelPosition} (at-start : spot left top w s ≡ start) (at-end : spot left top w e ≡ end) where
+  pub says-out : (r : Bool) → Says r (Joined (Unmarked marks w h) (center w s) (center w e)) → Says r (Joined (Clear marks left top w h) start end)
+  says-out true j = subst₂ (Joined (Clear marks left top w h)) at-start at-end (joined-out left top (agree-clear marks left top w h) j)
+  says-out false none = λ j. none (joined-back left top (agree-clear marks left top w h) (subst₂ (Joined (Clear marks left top w h)) (sym at-start) (sym at-end) j))
+
+  pub answers-at : (before after : List ℕ) (r : Way) → Answers (Clear marks left top w h) (spot left top w s) (spot left top w e) before after r → Answers (Clear marks left top w h) start end before after r
+  answers-at before after r a = subst₂ (λ (p q : PixelPosition). Answers (Clear marks left top w h) p q before after r) at-start at-end a
+
+-- ---- a part of an area
+module _ (n : ℕ) (area : List ℕ) where
+  pub part-long : n ≤ length area → length (take n area) ≡ n
+  part-long l = simp length-take (omega arith)
+
+  pub part-blank : Blank n area → Blank n (take n area)
+  part-blank blank i l = getD-take n area i 0 l ∙ blank i l
+
+  pub part-back : {part : List ℕ} → part ≡ take n area → part ++ drop n area ≡ area
+  part-back e = ap (λ (l : List ℕ). l ++ drop n area) e ∙ take-append-drop n area

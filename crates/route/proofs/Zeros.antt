@@ -34,6 +34,9 @@ all-zeros area zero-at = ext-getD 0 area (replicate (length area) 0) (sym (lengt
 pub cleared-blank : (n : ℕ) (area : List ℕ) → Blank n (cleared n area)
 cleared-blank n area i l = List·getD-append (replicate n 0) (drop n area) 0 i (omega (arith, length-replicate {A = ℕ} n 0)) ∙ getD-replicate n i 0 0 l
 
+pub blank-after : (n : ℕ) (was now : List ℕ) → now ≡ cleared n was → Blank n now
+blank-after n was now e i l = ap (λ (area : List ℕ). getD area i 0) e ∙ cleared-blank n was i l
+
 pub cleared-length : (n : ℕ) (area : List ℕ) → n ≤ length area → length (cleared n area) ≡ length area
 cleared-length n area l = simp (length-append, length-drop, length-replicate) (omega arith)
 

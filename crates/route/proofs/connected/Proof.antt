@@ -1,3 +1,9 @@
+-- `route::connected` meets its contract. Assumes nothing.
+use mathlib.Core.Path.{_∙_}
+use Prim.Native.Nat.{_*_}
+use native.Mathlib.Omega.{arith}
+use denote.Ref.{now}
+use Rattle.route.proofs.Zeros.{blank-after}
 use borrow.Author.Needs.{needs}
 use Rattle.route.proofs.connected.Statement.{statement}
 use Rattle.route.proofs.connected.Tie as tie
@@ -20,7 +26,19 @@ clear-requires-2 c κs = search needs
 
 -- src/lib.rt:612:5
 find-chain-requires : tie.Need-find-chain-requires
-find-chain-requires c κs = ?
+find-chain-requires c κs =
+    let q = c .before .before .before .before in
+    let p = q .before .before .before .before in
+    let o = p .before .before .before .before .before in
+    let a = o .args in
+    let n = a .w * a .h in
+    let lent = o .pre .1 in (
+      o .pre .0,
+      (
+        record { marks-long = lent .marks-long; parents-long = omega (arith, lent .parents-long, p .clear .kept .0); queue-long = omega (arith, lent .queue-long, q .clear2 .kept .0) },
+        (blank-after n (now (a .parents)) _ (p .clear .ensures), blank-after n (now (a .queue)) _ (q .clear2 .ensures)),
+      ),
+    )
 
 -- src/lib.rt:594:1
 same-length : tie.Need-same-length
@@ -32,7 +50,12 @@ same-length-2 c = search needs
 
 -- src/lib.rt:594:1
 returns : tie.Need-returns
-returns c = ?
+returns c =
+    let v = c .before .before .before .before in
+    let q = v .before .before .before .before .before in
+    let p = q .before .before .before .before in
+    let r = v .find-chain .ensures in
+    record { says = r .says; parents-left = r .parents-left ∙ p .clear .ensures; queue-left = r .queue-left ∙ q .clear2 .ensures }
 
 pub connected-spec : {M : Type 1} → statement M
 connected-spec =

@@ -1,3 +1,8 @@
+-- `route::find_chain` meets its contract. Assumes nothing.
+use mathlib.Core.Path.{sym}
+use Prim.Native.Nat.{_*_}
+use denote.Ref.{now}
+use Rattle.route.proofs.Answering.{says-out, part-long, part-blank, part-back}
 use borrow.Author.Needs.{needs}
 use Rattle.route.proofs.find_chain.Statement.{statement}
 use Rattle.route.proofs.find_chain.Tie as tie
@@ -24,7 +29,7 @@ slice-relend-prefix-chain-places c = search needs
 
 -- src/lib.rt:567:31
 slice-aggregate-chain-places : tie.Need-slice-aggregate-chain-places
-slice-aggregate-chain-places c = ?
+slice-aggregate-chain-places c = let o = c .before .before .before .before .before .before in sym (part-long _ (now (o .args .parents)) (o .pre .1 .0 .parents-long))
 
 -- src/lib.rt:567:50
 slice-relend-prefix-chain-places-2 : tie.Need-slice-relend-prefix-chain-places-2
@@ -32,11 +37,18 @@ slice-relend-prefix-chain-places-2 c = search needs
 
 -- src/lib.rt:567:50
 slice-aggregate-chain-places-2 : tie.Need-slice-aggregate-chain-places-2
-slice-aggregate-chain-places-2 c = ?
+slice-aggregate-chain-places-2 c = let o = c .before .before .before .before .before .before .before in sym (part-long _ (now (o .args .queue)) (o .pre .1 .0 .queue-long))
 
 -- src/lib.rt:567:5
 chain-places-requires : tie.Need-chain-places-requires
-chain-places-requires c κs = ?
+chain-places-requires c κs =
+    let i = c .before .before in
+    let o = i .before .before .before .before .before in
+    let a = o .args in
+    let n = a .w * a .h in (
+      record { limit = o .pre .0 .0 .limit; marks-long = o .pre .1 .0 .marks-long; parents-long = part-long n (now (a .parents)) (o .pre .1 .0 .parents-long); queue-long = part-long n (now (a .queue)) (o .pre .1 .0 .queue-long) },
+      ((i .before .local-index .ensures .0, i .local-index2 .ensures .0), (part-blank n (now (a .parents)) (o .pre .1 .1 .0), part-blank n (now (a .queue)) (o .pre .1 .1 .1))),
+    )
 
 -- src/lib.rt:548:1
 same-length : tie.Need-same-length
@@ -48,7 +60,17 @@ same-length-2 c = search needs
 
 -- src/lib.rt:548:1
 returns : tie.Need-returns
-returns c = ?
+returns c =
+    let v = c .before .before .before .before in
+    let i = v .before .before .before in
+    let a = i .before .before .before .before .before .args in
+    let n = a .w * a .h in
+    let r = v .chain-places .ensures in
+    record {
+      says = says-out (now (a .marks)) (a .left) (a .top) (a .w) (a .h) (i .before .local-index .result) (i .local-index2 .result) (i .before .local-index .ensures .1) (i .local-index2 .ensures .1) (v .chain-places .result) (r .says);
+      parents-left = part-back n (now (a .parents)) (r .parents-left);
+      queue-left = part-back n (now (a .queue)) (r .queue-left);
+    }
 
 pub find-chain-spec : {M : Type 1} → statement M
 find-chain-spec =

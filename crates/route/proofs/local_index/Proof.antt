@@ -1,9 +1,23 @@
+-- `route::local_index` meets its contract. Assumes nothing.
+use mathlib.Core.Path.{_≡_, ap, sym, subst₂, _∙_}
+use Prim.Native.Nat.{ℕ, _+_, _*_, _-_, _<_}
+use native.Mathlib.Omega.{arith}
+use Rattle.route.specs.Places.{spot}
+use Rattle.route.proofs.Answering.{index-in, index-spot}
 use borrow.Author.Needs.{needs}
 use Rattle.route.proofs.local_index.Statement.{statement}
 use Rattle.route.proofs.local_index.Tie as tie
 use Rattle.route.proofs.local_index.Reads as reads
 use Rattle.route.proofs.local_index.Lts as lts
 use Rattle.route.proofs.wide.Reads as wide-reads
+
+-- the place, in terms of the position
+place : (c : tie.After-wide2) → let a = c .before .before .args in
+    (c .wide2 .result - a .top) * a .w + (c .before .wide .result - a .left) ≡ (a .position .y - a .top) * a .w + (a .position .x - a .left)
+place c = let a = c .before .before .args in λ i. (c .wide2 .ensures .0 i - a .top) * a .w + (c .before .wide .ensures .0 i - a .left)
+
+within : (c : tie.After-wide2) → let a = c .before .before .args in (c .wide2 .result - a .top) * a .w + (c .before .wide .result - a .left) < a .w * a .h
+within c = let o = c .before .before in let a = o .args in omega (arith, place c, index-in (a .left) (a .top) (a .w) (a .h) (a .position) (o .pre .1))
 
 -- src/lib.rt:516:13
 wide-requires : tie.Need-wide-requires
@@ -23,15 +37,18 @@ sub-y c = search needs
 
 -- src/lib.rt:518:5
 mul-result : tie.Need-mul-result
-mul-result c = ?
+mul-result c = omega (arith, within c, c .before .before .pre .0 .limit)
 
 -- src/lib.rt:518:5
 add-result : tie.Need-add-result
-add-result c = ?
+add-result c = omega (arith, within c, c .before .before .pre .0 .limit)
 
 -- src/lib.rt:512:1
 returns : tie.Need-returns
-returns c = ?
+returns c =
+    let o = c .before .before in
+    let a = o .args in
+    (within c, ap (spot (a .left) (a .top) (a .w)) (place c) ∙ index-spot (a .left) (a .top) (a .w) (a .h) (a .position) (o .pre .1))
 
 pub local-index-spec : {M : Type 1} → statement M
 local-index-spec =
