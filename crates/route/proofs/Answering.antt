@@ -16,15 +16,18 @@ use Rattle.model.specs.Areas.{begun}
 use Rattle.model.proofs.Chains.{position-path}
 use Rattle.model.proofs.Ends.{route-joined}
 use Rattle.model.proofs.Shifted.{Agree, shift, route-out, joined-out, joined-back}
-use Rattle.route.specs.Marks.{Unmarked}
-use Rattle.route.specs.Places.{center, spot}
-use Rattle.route.specs.Search.{Sought, Opens, Written, Told}
-use Rattle.route.specs.Answer.{Clear, Inside, Shown, Shut, Answers, Blank}
+use Rattle.search.specs.Marks.{Unmarked}
+use Rattle.search.specs.Places.{center, spot}
+use Rattle.search.specs.Search.{Sought}
+use Rattle.route.specs.Trails.{Opens, Written, Told}
+use Rattle.route.specs.Answer.{Clear, Inside, Shown, Shut, Answers}
+use Rattle.search.specs.Places.{Blank}
 use Rattle.route.specs.declared.Way.{Way}
 use Rattle.route.specs.declared.Way.the-variants.{Found, NoWay}
-use Rattle.route.proofs.Centers.{place-in, center-in, center-place}
+use Rattle.search.proofs.Centers.{place-in, center-in, center-place}
 use Rattle.route.proofs.Tracing.{trail-one}
-use Rattle.route.proofs.Zeros.{all-blank, all-zeros}
+use Rattle.search.proofs.Noted.{all-blank}
+use Rattle.route.proofs.Zeros.{all-zeros}
 
 true-false : true ≡ false → ⊥
 true-false e = subst T e tt

@@ -1,12 +1,4 @@
 -- The laws that the functions' proofs cite.
-pub mod Centers
-pub mod Neighbours
-pub mod Corners
-pub mod Codes
-pub mod Frontier
-pub mod Noted
-pub mod Moves
-pub mod Trying
-pub mod Tracing
 pub mod Zeros
+pub mod Tracing
 pub mod Answering

@@ -9,9 +9,10 @@ use native.Mathlib.Decide.{decLt}
 use lib.ListN.{length, getD, set, drop, length-append, length-set, List·getD-eq-default}
 use lib.Seq.{drop-cons, drop-set-lt, getD-set-same, drop-length}
 use Rattle.model.specs.Steps.{pointWord}
-use Rattle.route.specs.Places.{spot}
+use Rattle.search.specs.Places.{spot}
 use Rattle.route.proofs.Zeros.{some-in}
-use Rattle.route.specs.Search.{Trail, begin, back, Tracked, Written}
+use Rattle.search.specs.Search.{Trail, begin, back}
+use Rattle.route.specs.Trails.{Tracked, Written}
 
 module _ {parents : List ℕ} {s : ℕ} where
   pub trail-some : {q : ℕ} {ps : List ℕ} → Trail parents s q ps → 1 ≤ length ps

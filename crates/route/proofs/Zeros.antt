@@ -7,8 +7,8 @@ use native.Mathlib.Decide.{decLt, ℕ-discrete}
 use lib.ListN.{length, getD, set, drop, replicate, length-replicate, getD-replicate, length-append, length-drop, List·getD-eq-default, List·getD-append}
 use lib.Seq.{getD-set-same, getD-set-other, getD-append-add, getD-drop, ext-getD}
 use Rattle.model.specs.Areas.{cleared}
-use Rattle.route.specs.Search.{Listed}
-use Rattle.route.specs.Answer.{Blank}
+use Rattle.search.specs.Search.{Listed}
+use Rattle.search.specs.Places.{Blank}
 
 -- past its end an area reads as zero, so a number that is not zero is inside
 pub some-in : (area : List ℕ) (p : ℕ) → 0 < getD area p 0 → p < length area
@@ -18,15 +18,7 @@ some-in area p some = split (decLt p (length area))
     split (yes l) = l
     split (no l) = let out : length area ≤ p = omega arith in absurd (omega (arith, some, List·getD-eq-default area 0 out))
 
--- an area that is blank as far as it goes has a zero everywhere
-pub all-blank : (n : ℕ) (area : List ℕ) → length area ≡ n → Blank n area → (i : ℕ) → getD area i 0 ≡ 0
-all-blank n area e blank i = split (decLt i n)
-  where
-    split : Dec (i < n) → getD area i 0 ≡ 0
-    split (yes l) = blank i l
-    split (no l) = let out : length area ≤ i = omega arith in List·getD-eq-default area 0 out
-
--- and is all zeros
+-- an area with a zero everywhere is all zeros
 pub all-zeros : (area : List ℕ) → ((i : ℕ) → getD area i 0 ≡ 0) → area ≡ replicate (length area) 0
 all-zeros area zero-at = ext-getD 0 area (replicate (length area) 0) (sym (length-replicate (length area) 0)) (λ i l. zero-at i ∙ sym (getD-replicate (length area) i 0 0 l))
 

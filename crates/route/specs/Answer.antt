@@ -8,7 +8,7 @@ use Rattle.model.specs.declared.PixelPosition.{PixelPosition}
 use Rattle.model.specs.Steps.{Joined, IsRoute, pointWord}
 use Rattle.model.specs.Passage.{Says}
 use Rattle.model.specs.Areas.{begun}
-use Rattle.route.specs.Marks.{Unmarked}
+use Rattle.search.specs.Marks.{Unmarked}
 use Rattle.route.specs.declared.Way.{Way}
 use Rattle.route.specs.declared.Way.the-variants.{Found, NoWay}
 
@@ -34,10 +34,6 @@ pub record Lent (w h : ℕ) (marks parents queue : List ℕ) : Type 0 where
   pub marks-long : w * h ≤ length marks
   pub parents-long : w * h ≤ length parents
   pub queue-long : w * h ≤ length queue
-
--- the first n places are zero
-abbrev pub Blank : ℕ → List ℕ → Type 0
-Blank n area = (i : ℕ) → i < n → getD area i 0 ≡ 0
 
 -- The area begins with the words of the route's n points, and the rest is as before.
 pub record Shown (free : ℕ → ℕ → Type 0) (s e : PixelPosition) (n : ℕ) (before after : List ℕ) : Type 0 where

@@ -1,5 +1,3 @@
 -- The root of the crate's definitions.
-pub mod Marks
-pub mod Places
-pub mod Search
 pub mod Answer
+pub mod Trails

@@ -9,8 +9,6 @@ use denote.Ref.{now}
 use Rattle.model.specs.Areas.{cleared}
 use Rattle.route.proofs.clear.Statement.{statement}
 use Rattle.route.proofs.clear.Tie as tie
-use Rattle.route.proofs.clear.Reads as reads
-use Rattle.route.proofs.clear.Lts as lts
 
 abbrev Inv-loop : tie.InvT-loop
 Inv-loop area₀ n i₀ area i = (i ≤ n) × (area ≡ cleared i area₀) × (length area ≡ length area₀)
@@ -18,38 +16,30 @@ Inv-loop area₀ n i₀ area i = (i ≤ n) × (area ≡ cleared i area₀) × (l
 abbrev μ-loop : tie.MeasureT-loop
 μ-loop area₀ n i₀ area i = n - i
 
--- src/lib.rt:379:5
 loop-holds : tie.Need-loop-holds Inv-loop μ-loop
 loop-holds c = (omega arith, refl, refl)
 
--- src/lib.rt:380:9
 mul-area : tie.Need-mul-area Inv-loop μ-loop
 mul-area c = omega arith
 
--- src/lib.rt:380:9
 slice-write-area : tie.Need-slice-write-area Inv-loop μ-loop
 slice-write-area c = omega arith
 
--- src/lib.rt:381:9
 add-i : tie.Need-add-i Inv-loop μ-loop
 add-i c = omega arith
 
--- src/lib.rt:379:5
 loop-less : tie.Need-loop-less Inv-loop μ-loop
 loop-less c = omega arith
 
--- src/lib.rt:379:5
 loop-again : tie.Need-loop-again Inv-loop μ-loop
 loop-again c =
     let l = c .before in
     let i = l .loop .i in
     (omega arith, ap (λ (x : List ℕ). set x i 0) (l .loop .inv .1) ∙ fill-more i 0 (now (l .before .args .area)) (omega arith), length-set (l .loop .area) i 0 ∙ l .loop .inv .2)
 
--- src/lib.rt:374:1
 same-length : tie.Need-same-length Inv-loop μ-loop
 same-length c = c .before .loop .inv .2
 
--- src/lib.rt:374:1
 returns : tie.Need-returns Inv-loop μ-loop
 returns c =
     let l = c .before in

@@ -8,9 +8,6 @@ use borrow.Author.Needs.{needs}
 use Rattle.route.proofs.Zeros.{Kept, kept-all, kept-next, kept-none, some-in}
 use Rattle.route.proofs.forget_places.Statement.{statement}
 use Rattle.route.proofs.forget_places.Tie as tie
-use Rattle.route.proofs.forget_places.Reads as reads
-use Rattle.route.proofs.forget_places.Lts as lts
-use Rattle.route.proofs.wide.Reads as wide-reads
 
 abbrev Inv-loop : tie.InvT-loop
 Inv-loop parents₀ queue used i₀ parents i = (i ≤ used) × (length parents ≡ length parents₀) × Kept queue parents i used
@@ -25,49 +22,38 @@ inside c =
     let o = l .before .before .before in
     omega (arith, some-in (now (o .args .parents)) (c .wide .result) (omega (arith, o .pre .0 .linked (l .loop .i) (omega arith), ap (λ (n : ℕ). getD (now (o .args .parents)) n 0) (c .wide .ensures .0))), l .loop .inv .1)
 
--- src/lib.rt:391:5
 loop-holds : tie.Need-loop-holds Inv-loop μ-loop
 loop-holds c = (omega arith, refl, kept-all (c .before .before .pre .0))
 
--- src/lib.rt:392:22
 mul-wide : tie.Need-mul-wide Inv-loop μ-loop
 mul-wide c = omega arith
 
--- src/lib.rt:392:22
 shared-slice-read-wide : tie.Need-shared-slice-read-wide Inv-loop μ-loop
 shared-slice-read-wide c = omega arith
 
--- src/lib.rt:392:13
 wide-requires : tie.Need-wide-requires Inv-loop μ-loop
 wide-requires c κs = search needs
 
--- src/lib.rt:393:9
 mul-parents : tie.Need-mul-parents Inv-loop μ-loop
 mul-parents c = omega (arith, inside c)
 
--- src/lib.rt:393:9
 slice-write-parents : tie.Need-slice-write-parents Inv-loop μ-loop
 slice-write-parents c = omega (arith, inside c)
 
--- src/lib.rt:394:9
 add-i : tie.Need-add-i Inv-loop μ-loop
 add-i c = omega arith
 
--- src/lib.rt:391:5
 loop-less : tie.Need-loop-less Inv-loop μ-loop
 loop-less c = omega arith
 
--- src/lib.rt:391:5
 loop-again : tie.Need-loop-again Inv-loop μ-loop
 loop-again c =
     let l = c .before .before .before in
     (omega arith, length-set (l .loop .parents) (c .wide .result) 0 ∙ l .loop .inv .1, kept-next (l .loop .inv .2) (c .wide .result) (c .wide .ensures .0) (inside c))
 
--- src/lib.rt:386:1
 same-length : tie.Need-same-length Inv-loop μ-loop
 same-length c = c .before .loop .inv .1
 
--- src/lib.rt:386:1
 returns : tie.Need-returns Inv-loop μ-loop
 returns c =
     let l = c .before in

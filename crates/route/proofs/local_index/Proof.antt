@@ -2,14 +2,11 @@
 use mathlib.Core.Path.{_≡_, ap, sym, subst₂, _∙_}
 use Prim.Native.Nat.{ℕ, _+_, _*_, _-_, _<_}
 use native.Mathlib.Omega.{arith}
-use Rattle.route.specs.Places.{spot}
+use Rattle.search.specs.Places.{spot}
 use Rattle.route.proofs.Answering.{index-in, index-spot}
 use borrow.Author.Needs.{needs}
 use Rattle.route.proofs.local_index.Statement.{statement}
 use Rattle.route.proofs.local_index.Tie as tie
-use Rattle.route.proofs.local_index.Reads as reads
-use Rattle.route.proofs.local_index.Lts as lts
-use Rattle.route.proofs.wide.Reads as wide-reads
 
 -- the place, in terms of the position
 place : (c : tie.After-wide2) → let a = c .before .before .args in
@@ -19,31 +16,24 @@ place c = let a = c .before .before .args in λ i. (c .wide2 .ensures .0 i - a .
 within : (c : tie.After-wide2) → let a = c .before .before .args in (c .wide2 .result - a .top) * a .w + (c .before .wide .result - a .left) < a .w * a .h
 within c = let o = c .before .before in let a = o .args in omega (arith, place c, index-in (a .left) (a .top) (a .w) (a .h) (a .position) (o .pre .1))
 
--- src/lib.rt:516:13
 wide-requires : tie.Need-wide-requires
 wide-requires c κs = search needs
 
--- src/lib.rt:516:13
 sub-x : tie.Need-sub-x
 sub-x c = search needs
 
--- src/lib.rt:517:13
 wide-requires-2 : tie.Need-wide-requires-2
 wide-requires-2 c κs = search needs
 
--- src/lib.rt:517:13
 sub-y : tie.Need-sub-y
 sub-y c = search needs
 
--- src/lib.rt:518:5
 mul-result : tie.Need-mul-result
 mul-result c = omega (arith, within c, c .before .before .pre .0 .limit)
 
--- src/lib.rt:518:5
 add-result : tie.Need-add-result
 add-result c = omega (arith, within c, c .before .before .pre .0 .limit)
 
--- src/lib.rt:512:1
 returns : tie.Need-returns
 returns c =
     let o = c .before .before in

@@ -6,25 +6,18 @@ use Rattle.route.proofs.Answering.{start-shut, end-decides}
 use borrow.Author.Needs.{needs}
 use Rattle.route.proofs.opens.Statement.{statement}
 use Rattle.route.proofs.opens.Tie as tie
-use Rattle.route.proofs.opens.Reads as reads
-use Rattle.route.proofs.opens.Lts as lts
-use Rattle.route.proofs.mark.Reads as mark-reads
 
--- src/lib.rt:427:8
 mark-requires : tie.Need-mark-requires
 mark-requires c κs = search needs
 
--- src/lib.rt:428:9
 returns : tie.Need-returns
 returns c =
     let a = c .before .before .before .args in
     start-shut (now (a .marks)) (a .w) (a .h) (a .start) (a .end) (λ z. c .if1 .taken (c .before .mark .ensures .0 ∙ z))
 
--- src/lib.rt:430:5
 mark-requires-2 : tie.Need-mark-requires-2
 mark-requires-2 c κs = search needs
 
--- src/lib.rt:423:1
 returns-2 : tie.Need-returns-2
 returns-2 c =
     let o = c .before .before .before .before in

@@ -7,24 +7,16 @@ use Rattle.route.proofs.Zeros.{blank-after}
 use borrow.Author.Needs.{needs}
 use Rattle.route.proofs.route.Statement.{statement}
 use Rattle.route.proofs.route.Tie as tie
-use Rattle.route.proofs.route.Reads as reads
-use Rattle.route.proofs.route.Lts as lts
-use Rattle.route.proofs.clear.Reads as clear-reads
-use Rattle.route.proofs.find_route.Reads as find-route-reads
 
--- src/lib.rt:587:13
 mul-n : tie.Need-mul-n
 mul-n c = search needs
 
--- src/lib.rt:588:5
 clear-requires : tie.Need-clear-requires
 clear-requires c κs = search needs
 
--- src/lib.rt:589:5
 clear-requires-2 : tie.Need-clear-requires-2
 clear-requires-2 c κs = search needs
 
--- src/lib.rt:590:5
 find-route-requires : tie.Need-find-route-requires
 find-route-requires c κs =
     let q = c .before .before .before .before .before in
@@ -40,19 +32,15 @@ find-route-requires c κs =
       ),
     )
 
--- src/lib.rt:571:1
 same-length : tie.Need-same-length
 same-length c = search needs
 
--- src/lib.rt:571:1
 same-length-2 : tie.Need-same-length-2
 same-length-2 c = search needs
 
--- src/lib.rt:571:1
 same-length-3 : tie.Need-same-length-3
 same-length-3 c = search needs
 
--- src/lib.rt:571:1
 returns : tie.Need-returns
 returns c =
     let v = c .before .before .before .before .before .before in

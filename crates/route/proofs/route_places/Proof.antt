@@ -9,18 +9,10 @@ use Rattle.route.proofs.Answering.{shut-out, told-answer, zeros-again}
 use borrow.Author.Needs.{needs}
 use Rattle.route.proofs.route_places.Statement.{statement}
 use Rattle.route.proofs.route_places.Tie as tie
-use Rattle.route.proofs.route_places.Reads as reads
-use Rattle.route.proofs.route_places.Lts as lts
-use Rattle.route.proofs.opens.Reads as opens-reads
-use Rattle.route.proofs.seek.Reads as seek-reads
-use Rattle.route.proofs.tell.Reads as tell-reads
-use Rattle.route.proofs.tidy.Reads as tidy-reads
 
--- src/lib.rt:477:9
 opens-requires : tie.Need-opens-requires
 opens-requires c κs = search needs
 
--- src/lib.rt:478:9
 returns : tie.Need-returns
 returns c =
     let a = c .before .before .before .before .before .before .args in
@@ -30,14 +22,12 @@ returns c =
       queue-left = refl;
     }
 
--- src/lib.rt:480:9
 seek-requires : tie.Need-seek-requires
 seek-requires c κs =
     let e = c .before .before in
     let pre = e .before .before .before .before .before .before .pre in
     (pre .0, ((pre .1 .1 .0 .0, e .before .opens .ensures .start (not-false _ (e .if1 .left))), pre .1 .1 .1))
 
--- src/lib.rt:481:9
 tell-requires : tie.Need-tell-requires
 tell-requires c κs =
     let k = c .before .before .before .before .before .before in
@@ -45,23 +35,18 @@ tell-requires c κs =
     let long = k .seek .kept .1 .1 .1 .0 ∙ pre .0 .parents-long in
     (pre .1 .0 .0, ((long, pre .1 .0 .1, pre .1 .1 .0 .0), λ t. let led = k .seek .ensures .leads t in (led .places, led .trail, omega (arith, led .short, long))))
 
--- src/lib.rt:483:5
 tidy-requires : tie.Need-tidy-requires
 tidy-requires c κs = search needs
 
--- src/lib.rt:459:1
 same-length : tie.Need-same-length
 same-length c = search needs
 
--- src/lib.rt:459:1
 same-length-2 : tie.Need-same-length-2
 same-length-2 c = search needs
 
--- src/lib.rt:459:1
 same-length-3 : tie.Need-same-length-3
 same-length-3 c = search needs
 
--- src/lib.rt:459:1
 returns-2 : tie.Need-returns-2
 returns-2 c =
     let t = c .before .before .before .before in

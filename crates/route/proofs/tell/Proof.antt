@@ -9,20 +9,13 @@ use Rattle.route.proofs.Tracing.{trail-one}
 use borrow.Author.Needs.{needs}
 use Rattle.route.proofs.tell.Statement.{statement}
 use Rattle.route.proofs.tell.Tie as tie
-use Rattle.route.proofs.tell.Reads as reads
-use Rattle.route.proofs.tell.Lts as lts
-use Rattle.route.proofs.trail_length.Reads as trail-length-reads
-use Rattle.route.proofs.write_route.Reads as write-route-reads
 
--- src/lib.rt:451:9
 returns : tie.Need-returns
 returns c = (not-true _ (c .if1 .taken), refl)
 
--- src/lib.rt:453:9
 trail-length-requires : tie.Need-trail-length-requires
 trail-length-requires c κs = c .before .before .before .pre .1 .1 (not-false _ (c .if1 .left))
 
--- src/lib.rt:454:5
 write-route-requires : tie.Need-write-route-requires
 write-route-requires c κs =
     let l = c .before in
@@ -31,11 +24,9 @@ write-route-requires c κs =
     let told = l .trail-length .ensures in
     (o .pre .0, ((o .pre .1 .0 .0, o .pre .1 .0 .2), (told, omega (arith, way .2, told .count, ap length (trail-one (way .1) (told .trail)), o .pre .1 .0))))
 
--- src/lib.rt:434:1
 same-length : tie.Need-same-length
 same-length c = search needs
 
--- src/lib.rt:434:1
 returns-2 : tie.Need-returns-2
 returns-2 c =
     let v = c .before .before in

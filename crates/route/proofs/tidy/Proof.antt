@@ -5,28 +5,19 @@ use Rattle.route.proofs.Zeros.{rest-zero}
 use borrow.Author.Needs.{needs}
 use Rattle.route.proofs.tidy.Statement.{statement}
 use Rattle.route.proofs.tidy.Tie as tie
-use Rattle.route.proofs.tidy.Reads as reads
-use Rattle.route.proofs.tidy.Lts as lts
-use Rattle.route.proofs.clear.Reads as clear-reads
-use Rattle.route.proofs.forget.Reads as forget-reads
 
--- src/lib.rt:417:5
 forget-requires : tie.Need-forget-requires
 forget-requires c κs = search needs
 
--- src/lib.rt:418:5
 clear-requires : tie.Need-clear-requires
 clear-requires c κs = search needs
 
--- src/lib.rt:413:1
 same-length : tie.Need-same-length
 same-length c = search needs
 
--- src/lib.rt:413:1
 same-length-2 : tie.Need-same-length-2
 same-length-2 c = search needs
 
--- src/lib.rt:413:1
 returns : tie.Need-returns
 returns c =
     let o = c .before .before .before .before .before .before .before .before .before .before .before in

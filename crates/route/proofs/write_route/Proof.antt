@@ -6,15 +6,11 @@ use lib.ListN.{length, getD, set, length-set}
 use denote.Ref.{now}
 use borrow.Author.Needs.{needs}
 use Rattle.model.specs.Steps.{pointWord}
-use Rattle.route.specs.Places.{spot}
-use Rattle.route.specs.Search.{Written}
+use Rattle.search.specs.Places.{spot}
+use Rattle.route.specs.Trails.{Written}
 use Rattle.route.proofs.Tracing.{Writing, writing-more, writing-next, written-all, writing-begun, trail-some}
 use Rattle.route.proofs.write_route.Statement.{statement}
 use Rattle.route.proofs.write_route.Tie as tie
-use Rattle.route.proofs.write_route.Reads as reads
-use Rattle.route.proofs.write_route.Lts as lts
-use Rattle.route.proofs.point.Reads as point-reads
-use Rattle.route.proofs.wide.Reads as wide-reads
 
 abbrev Inv-loop : tie.InvT-loop
 Inv-loop parents out₀ left top w h start end n i₀ p₀ out i p = Writing parents start end left top w n out₀ out i p
@@ -22,49 +18,38 @@ Inv-loop parents out₀ left top w h start end n i₀ p₀ out i p = Writing par
 abbrev μ-loop : tie.MeasureT-loop
 μ-loop parents out₀ left top w h start end n i₀ p₀ out i p = i
 
--- src/lib.rt:222:5
 loop-holds : tie.Need-loop-holds Inv-loop μ-loop
 loop-holds c = let pre = c .before .before .pre in writing-begun _ (pre .1 .1 .0) (pre .1 .1 .1)
 
--- src/lib.rt:223:9
 sub-i : tie.Need-sub-i Inv-loop μ-loop
 sub-i c = omega (arith, writing-more (c .before .loop .inv) (c .loop-test .taken))
 
--- src/lib.rt:224:18
 point-requires : tie.Need-point-requires Inv-loop μ-loop
 point-requires c κs =
     let o = c .before .before .before .before in
     (o .pre .0, omega (arith, writing-more (c .before .loop .inv) (c .loop-test .taken)))
 
--- src/lib.rt:224:9
 mul-out : tie.Need-mul-out Inv-loop μ-loop
 mul-out c = let t = c .before in omega (arith, writing-more (t .before .loop .inv) (t .loop-test .taken))
 
--- src/lib.rt:224:9
 slice-write-out : tie.Need-slice-write-out Inv-loop μ-loop
 slice-write-out c = let t = c .before in omega (arith, writing-more (t .before .loop .inv) (t .loop-test .taken), t .before .loop .inv .long)
 
--- src/lib.rt:225:18
 mul-wide : tie.Need-mul-wide Inv-loop μ-loop
 mul-wide c = let t = c .before in omega (arith, writing-more (t .before .loop .inv) (t .loop-test .taken))
 
--- src/lib.rt:225:18
 shared-slice-read-wide : tie.Need-shared-slice-read-wide Inv-loop μ-loop
 shared-slice-read-wide c = let t = c .before .before in writing-more (t .before .loop .inv) (t .loop-test .taken) .0
 
--- src/lib.rt:225:13
 wide-requires : tie.Need-wide-requires Inv-loop μ-loop
 wide-requires c κs = search needs
 
--- src/lib.rt:225:13
 sub-p : tie.Need-sub-p Inv-loop μ-loop
 sub-p c = let t = c .before .before .before in omega (arith, writing-more (t .before .loop .inv) (t .loop-test .taken), c .wide .ensures .0)
 
--- src/lib.rt:222:5
 loop-less : tie.Need-loop-less Inv-loop μ-loop
 loop-less c = let t = c .before .before .before in omega (arith, writing-more (t .before .loop .inv) (t .loop-test .taken))
 
--- src/lib.rt:222:5
 loop-again : tie.Need-loop-again Inv-loop μ-loop
 loop-again c =
     let t = c .before .before .before in
@@ -73,19 +58,15 @@ loop-again c =
     subst₂ (λ (v r : ℕ). Writing (now (a .parents)) (a .start) (a .end) (a .left) (a .top) (a .w) (a .n) (now (a .out)) (set (l .loop .out) (l .loop .i - 1) v) (l .loop .i - 1) (r - 1))
     (sym (c .before .before .point .ensures)) (sym (c .wide .ensures .0)) (writing-next (l .loop .inv) (t .loop-test .taken))
 
--- src/lib.rt:227:14
 point-requires-2 : tie.Need-point-requires-2 Inv-loop μ-loop
 point-requires-2 c κs = let pre = c .before .before .before .before .pre in (pre .0, pre .1 .0 .1)
 
--- src/lib.rt:227:5
 slice-write-out-2 : tie.Need-slice-write-out-2 Inv-loop μ-loop
 slice-write-out-2 c = let W = c .before .before .loop .inv in omega (arith, W .long, W .room, W .count, trail-some (W .trail))
 
--- src/lib.rt:203:1
 same-length : tie.Need-same-length Inv-loop μ-loop
 same-length c = let l = c .before .before in length-set (l .loop .out) 0 (c .point2 .result) ∙ l .loop .inv .long
 
--- src/lib.rt:203:1
 returns : tie.Need-returns Inv-loop μ-loop
 returns c =
     let l = c .before .before in
