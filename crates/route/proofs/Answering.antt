@@ -1,7 +1,7 @@
 -- From what the search and the writing ensure to the answer in the map's coordinates. Assumes nothing.
 use mathlib.Core.Path.{_≡_, refl, ap, sym, subst, subst₂, _∙_}
-use mathlib.Core.List.{List, [], _∷_, _++_, map, map-map}
-use mathlib.Core.Bool.{Bool, true, false, not}
+use mathlib.Core.List.{List, _++_, map, map-map}
+use mathlib.Core.Bool.{Bool, true, false}
 use Prim.Native.Nat.{ℕ, _+_, _*_, _-_, _/_, _%_, _<_, _≤_}
 use native.Mathlib.Nat.{div-add-mod'}
 use native.Mathlib.Omega.{arith}
@@ -10,17 +10,16 @@ use lib.ListN.{length, getD, take, drop, replicate, length-map, length-take, tak
 use lib.Seq.{getD-take}
 use borrow.Author.Tests.{eqb-true, eqb-false}
 use Rattle.model.specs.declared.PixelPosition.{PixelPosition}
-use Rattle.model.specs.Steps.{Chain, Joined, IsRoute, pointWord}
+use Rattle.model.specs.Steps.{Joined, IsRoute, pointWord}
 use Rattle.model.specs.Passage.{Says}
-use Rattle.model.specs.Areas.{begun}
 use Rattle.model.proofs.Chains.{position-path}
 use Rattle.model.proofs.Ends.{route-joined}
 use Rattle.model.proofs.Shifted.{Agree, shift, route-out, joined-out, joined-back}
 use Rattle.search.specs.Marks.{Unmarked}
 use Rattle.search.specs.Places.{center, spot}
 use Rattle.search.specs.Search.{Sought}
-use Rattle.route.specs.Trails.{Opens, Written, Told}
-use Rattle.route.specs.Answer.{Clear, Inside, Shown, Shut, Answers}
+use Rattle.route.specs.Trails.{Opens, Told}
+use Rattle.route.specs.Answer.{Clear, Inside, Shut, Answers}
 use Rattle.search.specs.Places.{Blank}
 use Rattle.route.specs.declared.Way.{Way}
 use Rattle.route.specs.declared.Way.the-variants.{Found, NoWay}
@@ -53,7 +52,7 @@ module _ (marks : List ℕ) (w h : ℕ) where
 
 -- ---- window and map
 -- what the marks say of the map's centers is what they say of the window's
-pub agree-clear : (marks : List ℕ) (left top w h : ℕ) → Agree left top (Unmarked marks w h) (Clear marks left top w h)
+agree-clear : (marks : List ℕ) (left top w h : ℕ) → Agree left top (Unmarked marks w h) (Clear marks left top w h)
 agree-clear marks left top w h = record {
   out = λ x y f.
       let ex : x ≡ left + x - left = omega arith in

@@ -2,3 +2,4 @@
 pub mod Zeros
 pub mod Tracing
 pub mod Answering
+pub mod Reading

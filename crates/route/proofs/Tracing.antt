@@ -1,13 +1,10 @@
 -- Following the parents back: what the two loops over them keep. Assumes nothing.
 use mathlib.Core.Path.{_≡_, refl, ap, sym, subst, _∙_}
 use mathlib.Core.List.{List, [], _∷_, _++_, map, append-assoc, append-nil}
-use Prim.Native.Nat.{ℕ, zero, suc, _+_, _*_, _-_, _/_, _%_, _<_, _≤_}
-use native.Mathlib.Nat.{mod-lt, div-lt-iff-lt-mul}
-use native.Mathlib.Numerals.{add-one}
+use Prim.Native.Nat.{ℕ, suc, _+_, _-_, _<_, _≤_}
 use native.Mathlib.Omega.{arith}
-use native.Mathlib.Decide.{decLt}
-use lib.ListN.{length, getD, set, drop, length-append, length-set, List·getD-eq-default}
-use lib.Seq.{drop-cons, drop-set-lt, getD-set-same, drop-length}
+use lib.ListN.{length, getD, set, drop, length-append, length-set}
+use lib.Seq.{drop-cons, drop-set-lt, getD-set-same}
 use Rattle.model.specs.Steps.{pointWord}
 use Rattle.search.specs.Places.{spot}
 use Rattle.route.proofs.Zeros.{some-in}
@@ -37,7 +34,7 @@ pub record Back (parents : List ℕ) (s q : ℕ) (qs : List ℕ) : Type 0 where
   pub last : qs ≡ ps ++ (q ∷ [])
   pub within : q < length parents
 
-pub trail-back : {parents : List ℕ} {s q : ℕ} {qs : List ℕ} → Trail parents s q qs → (q ≡ s → ⊥) → Back parents s q qs
+trail-back : {parents : List ℕ} {s q : ℕ} {qs : List ℕ} → Trail parents s q qs → (q ≡ s → ⊥) → Back parents s q qs
 trail-back begin n = absurd (n refl)
 trail-back {parents} (back {p = p} {q = q} {ps = ps} t m l) n = record { p = p; ps = ps; trail = t; link = l; last = refl; within = some-in parents q (omega (arith, l)) }
 

@@ -1,7 +1,7 @@
 -- Areas that hold zeros: as a search finds them, and as it leaves them. Assumes nothing.
-use mathlib.Core.Path.{_≡_, refl, sym, ap, _∙_}
-use mathlib.Core.List.{List, [], _∷_, _++_}
-use Prim.Native.Nat.{ℕ, zero, suc, _+_, _-_, _<_, _≤_}
+use mathlib.Core.Path.{_≡_, sym, ap, _∙_}
+use mathlib.Core.List.{List}
+use Prim.Native.Nat.{ℕ, _+_, _-_, _<_, _≤_}
 use native.Mathlib.Omega.{arith}
 use native.Mathlib.Decide.{decLt, ℕ-discrete}
 use lib.ListN.{length, getD, set, drop, replicate, length-replicate, getD-replicate, length-append, length-drop, List·getD-eq-default, List·getD-append}
@@ -23,13 +23,13 @@ pub all-zeros : (area : List ℕ) → ((i : ℕ) → getD area i 0 ≡ 0) → ar
 all-zeros area zero-at = ext-getD 0 area (replicate (length area) 0) (sym (length-replicate (length area) 0)) (λ i l. zero-at i ∙ sym (getD-replicate (length area) i 0 0 l))
 
 -- the first n numbers of an area that was cleared
-pub cleared-blank : (n : ℕ) (area : List ℕ) → Blank n (cleared n area)
+cleared-blank : (n : ℕ) (area : List ℕ) → Blank n (cleared n area)
 cleared-blank n area i l = List·getD-append (replicate n 0) (drop n area) 0 i (omega (arith, length-replicate {A = ℕ} n 0)) ∙ getD-replicate n i 0 0 l
 
 pub blank-after : (n : ℕ) (was now : List ℕ) → now ≡ cleared n was → Blank n now
 blank-after n was now e i l = ap (λ (area : List ℕ). getD area i 0) e ∙ cleared-blank n was i l
 
-pub cleared-length : (n : ℕ) (area : List ℕ) → n ≤ length area → length (cleared n area) ≡ length area
+cleared-length : (n : ℕ) (area : List ℕ) → n ≤ length area → length (cleared n area) ≡ length area
 cleared-length n area l = simp (length-append, length-drop, length-replicate) (omega arith)
 
 -- an area whose numbers from n on are zero is all zeros once the first n are

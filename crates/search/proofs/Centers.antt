@@ -1,5 +1,5 @@
 -- Places and the centers that they are of. Assumes nothing.
-use mathlib.Core.Path.{_≡_, refl, ap, sym, _∙_}
+use mathlib.Core.Path.{_≡_, ap}
 use Prim.Native.Nat.{ℕ, zero, suc, _+_, _*_, _/_, _%_, _<_, _≤_}
 use native.Mathlib.Nat.{div-add-mod', mod-lt, mul-comm, mul-le-mul-left, mul-le-mul-right, mul-add-div-right, add-mul-mod-self-right, mod-eq-of-lt, div-eq-of-lt, add-comm, div-lt-iff-lt-mul}
 use native.Mathlib.Omega.{arith}

@@ -1,14 +1,14 @@
 -- Chains as numbers: the steps are the digits of a number to base eight, after a leading 1. The numbers' order is that of the chains, the
 -- fewest steps first and then step by step. Assumes nothing.
-use mathlib.Core.Path.{_≡_, refl, ap, sym}
+use mathlib.Core.Path.{_≡_, refl}
 use mathlib.Core.List.{List, [], _∷_, _++_}
 use mathlib.Core.Logic.{⊎-elim, _⊎_, inl, inr}
-use Prim.Native.Nat.{ℕ, suc, _+_, _*_, _<_, _≤_}
+use Prim.Native.Nat.{ℕ, _+_, _*_, _<_, _≤_}
 use native.Mathlib.Omega.{arith}
-use native.Mathlib.Decide.{decLt, decLe}
+use native.Mathlib.Decide.{decLt}
 use lib.ListN.{length}
 use Rattle.model.specs.declared.PixelPosition.{PixelPosition}
-use Rattle.model.specs.Steps.{Step, Chain, stay, step, Lex, NotAfter, IsRoute}
+use Rattle.model.specs.Steps.{Step, Chain, stay, step, Lex, NotAfter}
 
 abbrev onto : ℕ → List ℕ → ℕ
 onto n [] = n

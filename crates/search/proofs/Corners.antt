@@ -1,15 +1,14 @@
 -- The corner rule, and which steps lead from a place. Assumes nothing.
 use mathlib.Core.Path.{_≡_, refl, ap, sym, subst, subst₂, _∙_}
 use mathlib.Core.List.{List, [], _∷_}
-use Prim.Native.Nat.{ℕ, zero, suc, _+_, _-_, _*_, _/_, _%_, _<_, _≤_}
-use native.Mathlib.Nat.{div-add-mod'}
+use Prim.Native.Nat.{ℕ, zero, suc, _+_, _*_, _<_, _≤_}
 use native.Mathlib.Omega.{arith}
 use lib.ListN.{getD}
 use Rattle.model.specs.declared.PixelPosition.{PixelPosition}
 use Rattle.model.specs.Steps.{steps, across, down, Step}
-use Rattle.model.proofs.Chains.{step-by-rule, position-path}
+use Rattle.model.proofs.Chains.{step-by-rule}
 use Rattle.search.specs.Marks.{Unmarked}
-use Rattle.search.specs.Places.{center, ahead, Seen, Around, Allows, sideX, sideY}
+use Rattle.search.specs.Places.{center, ahead, Around, Allows, sideX, sideY}
 use Rattle.search.specs.Search.{Bars}
 use Rattle.search.proofs.Centers.{place-in, center-place}
 use Rattle.search.proofs.Neighbours.{landed}
@@ -78,7 +77,7 @@ module _ {free : ℕ → ℕ → Type 0} {x y : ℕ} {around bars : List ℕ} (h
       let s = seen j l .is z in
       subst₂ free (omega (arith, s .1)) (omega (arith, s .2)) (s .3)
 
-  pub step-open : (k : ℕ) → k < 8 → getD bars k 0 ≡ 0 → (q : PixelPosition) × Step free k origin q
+  step-open : (k : ℕ) → k < 8 → getD bars k 0 ≡ 0 → (q : PixelPosition) × Step free k origin q
   step-open k l z =
       let o = allows .opens k l z in
       let s = seen k l .is (o .0) in
@@ -92,7 +91,7 @@ module _ {free : ℕ → ℕ → Type 0} {x y : ℕ} {around bars : List ℕ} (h
             )),
       )
 
-  pub open-step : (k : ℕ) (q : PixelPosition) → Step free k origin q → getD bars k 0 ≡ 0
+  open-step : (k : ℕ) (q : PixelPosition) → Step free k origin q → getD bars k 0 ≡ 0
   open-step k q t = allows .joins k (t .number) (seen k (t .number) .all q (t .moved-x) (t .moved-y) (t .to)) (λ m.
       let s = sides k m (t .number) in (
         seen (sideX k) (s .x-number) .all (record { x = q .x; y = y }) (omega (arith, t .moved-x, s .x-across)) (omega (arith, s .x-down)) (t .side-x),

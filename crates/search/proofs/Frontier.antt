@@ -1,18 +1,17 @@
 -- What the search's state says of every chain. Assumes nothing.
-use mathlib.Core.Path.{_≡_, refl, ap, sym, subst, _∙_}
+use mathlib.Core.Path.{_≡_, ap, sym, subst, _∙_}
 use mathlib.Core.List.{List, [], _∷_, _++_, map, map-append}
 use mathlib.Core.Logic.{⊎-elim, _⊎_, inl, inr}
 use Prim.Native.Nat.{ℕ, zero, suc, _+_, _*_, _/_, _%_, _<_, _≤_}
-use native.Mathlib.Nat.{div-add-mod'}
 use native.Mathlib.Omega.{arith}
-use native.Mathlib.Decide.{decLt, decLe}
+use native.Mathlib.Decide.{decLt}
 use mathlib.Core.Bool.{true, false}
 use lib.Dec.{T}
 use lib.ListN.{length, getD, length-append}
 use Rattle.model.specs.declared.PixelPosition.{PixelPosition}
-use Rattle.model.specs.Steps.{Step, Chain, stay, step, Lex, NotAfter, IsRoute}
+use Rattle.model.specs.Steps.{Step, Chain, stay}
 use Rattle.search.specs.Places.{center}
-use Rattle.search.specs.Search.{Entry, Held, Queued, Searching, Expanding, Trail, begin, back, Sought}
+use Rattle.search.specs.Search.{Entry, Held, Queued, Searching, Trail, begin, back, Sought}
 use Rattle.search.proofs.Codes.{code, code-snoc, code-le, digits, snoc, Reach, reach}
 use Rattle.search.proofs.Codes
 use Rattle.search.proofs.Centers.{place-one}
@@ -81,7 +80,7 @@ module _ {free : ℕ → ℕ → Type 0} {w s e head tail : ℕ} {queue parents 
   Ahead n = (i : ℕ) × (head ≤ i) × (i < tail) × (getD (S .codes) i 0 ≤ n)
 
   -- the end of every chain is found, by a chain that is not after it, or an entry still to do is not after it
-  pub frontier : {n : ℕ} {q : PixelPosition} → Reach free (center w s) n q → Held w queue (S .codes) tail q n ⊎ Ahead n
+  frontier : {n : ℕ} {q : PixelPosition} → Reach free (center w s) n q → Held w queue (S .codes) tail q n ⊎ Ahead n
   frontier Codes.Reach.begin = inl (record { i = 0; queued = S .state .begun; there = ap (center w) (S .state .start); code = omega (arith, S .state .start-code) })
   frontier (Codes.Reach.onward {n} {k} {p} {q} r t) = ⊎-elim (λ h. next h (decLt (h .i) head)) (λ a. inr (a .0, a .1, a .2, omega arith)) (frontier r)
     where
@@ -93,12 +92,12 @@ module _ {free : ℕ → ℕ → Type 0} {w s e head tail : ℕ} {queue parents 
       next h (no l) = inr (h .i, omega arith, h .queued, omega (arith, h .code))
 
   -- with nothing left to do, and the end not among what is done, no chain leads to the end
-  pub exhausted : tail ≤ head → (ks : List ℕ) (cs : List PixelPosition) → Chain free (center w s) ks cs (center w e) → ⊥
+  exhausted : tail ≤ head → (ks : List ℕ) (cs : List PixelPosition) → Chain free (center w s) ks cs (center w e) → ⊥
   exhausted over ks cs c =
       ⊎-elim (λ h. S .not-yet (h .i) (omega (arith, h .queued)) (place-one w _ _ (h .there))) (λ a. omega arith) (frontier (reach c))
 
   -- the entry at the end, where it comes up, is there by a chain that is not after any other
-  pub arrived : head < tail → getD queue head 0 ≡ e → (ks : List ℕ) (cs : List PixelPosition) → Chain free (center w s) ks cs (center w e) → getD (S .codes) head 0 ≤ code ks
+  arrived : head < tail → getD queue head 0 ≡ e → (ks : List ℕ) (cs : List PixelPosition) → Chain free (center w s) ks cs (center w e) → getD (S .codes) head 0 ≤ code ks
   arrived more at-end ks cs c = ⊎-elim (λ h. held h (decLt (h .i) head)) (λ a. risen (a .0) (a .1) (a .2) (a .3)) (frontier (reach c))
     where
       risen : (i : ℕ) → head ≤ i → i < tail → getD (S .codes) i 0 ≤ code ks → getD (S .codes) head 0 ≤ code ks

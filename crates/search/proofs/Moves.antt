@@ -1,17 +1,15 @@
 -- How the search's state changes: it begins, a step is passed over, a step finds a place, the next entry is taken up. Assumes nothing.
 use mathlib.Core.Path.{_≡_, refl, ap, sym, subst, subst₂, _∙_}
 use mathlib.Core.List.{List, [], _∷_, _++_}
-use mathlib.Core.Logic.{⊎-elim, _⊎_, inl, inr}
-use Prim.Native.Nat.{ℕ, zero, suc, _+_, _*_, _<_, _≤_}
+use Prim.Native.Nat.{ℕ, _+_, _*_, _<_, _≤_}
 use native.Mathlib.Omega.{arith}
-use native.Mathlib.Numerals.{add-one}
 use native.Mathlib.Decide.{decLt, ℕ-discrete}
-use lib.ListN.{length, getD, set, length-append, length-set, List·getD-append}
+use lib.ListN.{length, getD, set, length-append, List·getD-append}
 use lib.Seq.{getD-set-same, getD-set-other, getD-at}
 use Rattle.model.specs.declared.PixelPosition.{PixelPosition}
 use Rattle.model.specs.Steps.{Step}
 use Rattle.search.specs.Places.{center}
-use Rattle.search.specs.Search.{noted, Entry, Held, Queued, Searching, Expanding, Works}
+use Rattle.search.specs.Search.{Entry, Held, Queued, Searching, Expanding}
 use Rattle.model.proofs.Chains.{step-one}
 use Rattle.search.proofs.Noted.{noted-none, noted-more}
 use Rattle.search.proofs.Frontier.{rising-le}

@@ -1,6 +1,6 @@
 -- Moves, and what the steps from a center lead to. Assumes nothing.
 use mathlib.Core.Path.{_≡_, refl, ap, sym, subst, _∙_}
-use mathlib.Core.List.{List, [], _∷_}
+use mathlib.Core.List.{List, []}
 use Prim.Native.Nat.{ℕ, zero, suc, _+_, _-_, _*_, _<_, _≤_}
 use native.Mathlib.Omega.{arith}
 use lib.ListN.{length, getD, set}
@@ -11,12 +11,10 @@ use mir.Syntax.{w32}
 use mir.Val.{SFits, toZ, ofZ}
 use mir.Facts.{toZ-ofZ}
 use Rattle.model.specs.declared.PixelPosition.{PixelPosition}
-use Rattle.model.specs.Steps.{steps, raised, across, down, Step}
-use Rattle.model.proofs.Chains.{step-by-rule, step-one, position-path}
+use Rattle.model.specs.Steps.{steps, raised}
 use Rattle.search.specs.Marks.{Unmarked}
-use Rattle.search.specs.Places.{center, eastward, southward, Small, Inner, ahead, Seen, Around, Allows, sideX, sideY}
-use Rattle.search.specs.Search.{Bars}
-use Rattle.search.proofs.Centers.{place-in, center-place}
+use Rattle.search.specs.Places.{eastward, southward, Small, Inner, ahead, Seen}
+use Rattle.search.proofs.Centers.{place-in}
 
 -- a signed number by its bits: what the tests of a move say
 pub raised-zero : (d : ℤ) → SFits w32 d → ofZ w32 d ≡ 0 → raised d ≡ 1

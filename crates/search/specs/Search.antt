@@ -5,10 +5,10 @@ use mathlib.Core.Path.{_≡_}
 use mathlib.Core.Bool.{Bool, true, false}
 use mathlib.Core.List.{List, [], _∷_, _++_, map}
 use Prim.Native.Nat.{ℕ, zero, suc, _+_, _*_, _<_, _≤_}
-use lib.ListN.{length, getD, set, drop}
+use lib.ListN.{length, getD, set}
 use Rattle.model.specs.declared.PixelPosition.{PixelPosition}
-use Rattle.model.specs.Steps.{steps, across, down, Step, Chain, Joined, IsRoute, pointWord}
-use Rattle.search.specs.Places.{center, spot, ahead}
+use Rattle.model.specs.Steps.{steps, across, down, Step, Chain, IsRoute}
+use Rattle.search.specs.Places.{center, ahead}
 
 -- how many numbers are not zero
 abbrev pub noted : List ℕ → ℕ

@@ -1,6 +1,6 @@
 -- `route::local_index` meets its contract. Assumes nothing.
-use mathlib.Core.Path.{_≡_, ap, sym, subst₂, _∙_}
-use Prim.Native.Nat.{ℕ, _+_, _*_, _-_, _<_}
+use mathlib.Core.Path.{_≡_, ap, _∙_}
+use Prim.Native.Nat.{_+_, _*_, _-_, _<_}
 use native.Mathlib.Omega.{arith}
 use Rattle.search.specs.Places.{spot}
 use Rattle.route.proofs.Answering.{index-in, index-spot}

@@ -1,5 +1,5 @@
 -- `route::opens` meets its contract. Assumes nothing.
-use mathlib.Core.Path.{_≡_, sym, _∙_}
+use mathlib.Core.Path.{_∙_}
 use native.Mathlib.Omega.{arith}
 use denote.Ref.{now}
 use Rattle.route.proofs.Answering.{start-shut, end-decides}

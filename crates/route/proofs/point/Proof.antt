@@ -1,3 +1,4 @@
+-- `route::point` meets its contract: the sums and the product fit, since the window's centers fit route words. Assumes nothing.
 use native.Mathlib.Omega.{arith}
 use Rattle.search.proofs.Centers.{center-in}
 use borrow.Author.Needs.{needs}

@@ -1,9 +1,7 @@
 -- `route::tell` meets its contract. Assumes nothing.
-use mathlib.Core.Path.{_≡_, refl, ap}
-use mathlib.Core.Bool.{true}
+use mathlib.Core.Path.{refl, ap}
 use native.Mathlib.Omega.{arith}
 use lib.ListN.{length}
-use denote.Ref.{now}
 use borrow.Author.Tests.{not-true, not-false}
 use Rattle.route.proofs.Tracing.{trail-one}
 use borrow.Author.Needs.{needs}

@@ -1,7 +1,8 @@
-use mathlib.Core.Path.{refl, sym, ap, subst}
+-- `route::trail_length` meets its contract. The loop's invariant: n places were passed on the way back to p. Assumes nothing.
+use mathlib.Core.Path.{refl, sym, subst}
 use Prim.Native.Nat.{ℕ, _-_, _+_}
 use native.Mathlib.Omega.{arith}
-use lib.ListN.{length, getD}
+use lib.ListN.{length}
 use denote.Ref.{now}
 use borrow.Author.Needs.{needs}
 use Rattle.route.proofs.Tracing.{Counting, counting-more, counting-next, counted-all}

@@ -1,12 +1,10 @@
-use mathlib.Core.Path.{_≡_, refl, sym, ap, subst, subst₂, _∙_}
-use mathlib.Core.List.{List, [], _∷_, _++_, append-nil}
-use Prim.Native.Nat.{ℕ, _-_, _+_, _*_}
+-- `route::write_route` meets its contract. The loop's invariant: the words of the places after p stand from i on. Assumes nothing.
+use mathlib.Core.Path.{sym, subst, subst₂, _∙_}
+use Prim.Native.Nat.{ℕ, _-_}
 use native.Mathlib.Omega.{arith}
-use lib.ListN.{length, getD, set, length-set}
+use lib.ListN.{set, length-set}
 use denote.Ref.{now}
 use borrow.Author.Needs.{needs}
-use Rattle.model.specs.Steps.{pointWord}
-use Rattle.search.specs.Places.{spot}
 use Rattle.route.specs.Trails.{Written}
 use Rattle.route.proofs.Tracing.{Writing, writing-more, writing-next, written-all, writing-begun, trail-some}
 use Rattle.route.proofs.write_route.Statement.{statement}

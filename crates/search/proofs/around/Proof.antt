@@ -1,15 +1,15 @@
-use mathlib.Core.Path.{_≡_, refl, ap, _∙_}
-use mathlib.Core.List.{List, []}
-use Prim.Native.Nat.{ℕ, _+_, _-_, _*_, _≤_, _<_}
+-- `search::around` meets its contract. The loop's invariant: what the steps below k lead to is known. Assumes nothing.
+use mathlib.Core.Path.{_≡_, refl, _∙_}
+use mathlib.Core.List.{[]}
+use Prim.Native.Nat.{ℕ, _-_, _≤_, _<_}
 use native.Mathlib.Omega.{arith}
-use lib.ListN.{length, getD, set, length-set}
+use lib.ListN.{length, getD, length-set}
 use denote.Ref.{now}
 use borrow.Author.Needs.{needs}
 use Rattle.model.specs.Steps.{steps}
 use Rattle.search.specs.Marks.{Unmarked}
-use Rattle.search.specs.Places.{Seen, ahead, eastward, southward}
-use Rattle.search.proofs.Centers.{place-in, window-small}
-use Rattle.search.proofs.Neighbours.{step-small, seen-mark, lands-in, filled-more}
+use Rattle.search.specs.Places.{Seen}
+use Rattle.search.proofs.Neighbours.{step-small, filled-more}
 use Rattle.search.proofs.around.Statement.{statement}
 use Rattle.search.proofs.around.Tie as tie
 

@@ -1,3 +1,4 @@
+-- `search::barred` meets its contract: each sum is 0 where its parts are. Assumes nothing.
 use Prim.Native.Nat.{ℕ, _≤_}
 use native.Mathlib.Omega.{arith}
 use lib.ListN.{getD}

@@ -1,12 +1,10 @@
 -- `search::expand_edge` meets its contract. The loop's invariant: the steps below k have been tried. Assumes nothing.
 use mathlib.Core.Path.{_≡_, refl, sym, subst, _∙_}
-use mathlib.Core.List.{[]}
-use Prim.Native.Nat.{ℕ, _+_, _-_, _*_, _≤_, _<_}
+use Prim.Native.Nat.{ℕ, _-_, _*_, _≤_, _<_}
 use native.Mathlib.Omega.{arith}
-use lib.ListN.{length, getD}
+use lib.ListN.{length}
 use denote.Ref.{now}
 use borrow.Author.Needs.{needs}
-use Rattle.model.specs.Steps.{steps}
 use Rattle.search.specs.Marks.{Unmarked}
 use Rattle.search.specs.Search.{Works, Bars, Growing}
 use Rattle.search.proofs.Centers.{place-in, window-small}

@@ -1,3 +1,4 @@
+-- `search::try_edge_step` meets its contract. Assumes nothing.
 use native.Mathlib.Omega.{arith}
 use Rattle.search.proofs.Trying.{left-alone}
 use borrow.Author.Needs.{needs}
