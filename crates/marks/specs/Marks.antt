@@ -1,10 +1,9 @@
--- Marks: what the byte of a center says, and what marking the centers of a window promises. How a mark is stored is known here, and in `mark_of` and `is_blocked`.
+-- Marks: what the byte of a center says, and what marking the centers of a window promises. How a mark is stored is known here, and in `mark_of` and `mark`.
 -- Assumes nothing.
 use mathlib.Core.Path.{_≡_}
 use mathlib.Core.Bool.{Bool, not}
 use mathlib.Core.List.{List}
 use Prim.Native.Nat.{ℕ, _+_, _*_, _≤_, _<_}
-use lib.Dec.{eqb}
 use lib.IntN.{natAbs}
 use lib.ListN.{length, getD, take, drop}
 use Rattle.numbers.proofs.Places.{one-if}
@@ -23,10 +22,6 @@ use Rattle.counts.specs.Counts.{Surveyed}
 -- the mark of a center: 1 where it is blocked, else 0
 abbrev pub markOf : Bool → ℕ
 markOf blocked = one-if blocked
-
--- the mark at a place says that the center is blocked
-abbrev pub blockedAt : List ℕ → ℕ → Bool
-blockedAt marks place = not (eqb (getD marks place 0) 0)
 
 -- a mark of 0 says that the window's center in column x and row y may be passed
 abbrev pub Unmarked : List ℕ → ℕ → ℕ → ℕ → ℕ → Type 0

@@ -9,9 +9,9 @@ ghost use mathlib.Core.Bool.{_||_};
 ghost use Prim.Native.Nat.{_+_, _*_, _<_, _≤_};
 ghost use lib.Dec.{ltb};
 ghost use lib.IntN.{pos, natAbs};
-ghost use lib.ListN.{length};
+ghost use lib.ListN.{length, getD};
 ghost use Rattle.counts.specs.Counts.{ground};
-ghost use Rattle.marks.specs.Marks.{Centers, Ready, Roomy, areas, blockedAt, frameOf, markOf};
+ghost use Rattle.marks.specs.Marks.{Centers, Ready, Roomy, areas, frameOf, markOf};
 ghost use Rattle.marks.specs.Passes.{Row, Part, Settled};
 
 // The mark of a center that so many blockers of the ground and of the plan cover.
@@ -27,12 +27,18 @@ fn mark_of(ground: u32, plan: u32) -> u8
     }
 }
 
-// Whether the mark at a place says that the center is blocked.
-pub fn is_blocked(marks: &[u8], place: usize) -> bool
-    requires { ⌜ place < length (now marks) ⌝ }
-    ensures { λ r. ⌜ r ≡ blockedAt (now (marks .entry)) place ⌝ }
+fn byte(x: u8) -> usize
+    ensures { λ r. ⌜ (r ≡ x) × (r ≤ 255) ⌝ }
 {
-    marks[place] != 0
+    x as usize
+}
+
+// The mark at a place: 0 where its center may be passed.
+pub fn mark(marks: &[u8], place: usize) -> usize
+    requires { ⌜ place < length (now marks) ⌝ }
+    ensures { λ r. ⌜ (r ≡ getD (now (marks .entry)) place 0) × (r ≤ 255) ⌝ }
+{
+    byte(marks[place])
 }
 
 // Marks n centers of a row, from the counts of the ground and of the plan.

@@ -6,6 +6,7 @@ pub mod Words
 pub mod Valid
 pub mod Enough
 pub mod Chains
+pub mod Ends
 pub mod Verdicts
 pub mod Answers
 pub mod Caps

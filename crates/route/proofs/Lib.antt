@@ -1,0 +1,5 @@
+-- The laws that the functions' proofs cite.
+pub mod Zeros
+pub mod Tracing
+pub mod Answering
+pub mod Reading

@@ -1,0 +1,3 @@
+-- The root of the crate's definitions.
+pub mod Answer
+pub mod Trails

@@ -1,0 +1,3 @@
+-- The root of the crate's definitions.
+pub mod Places
+pub mod Search
