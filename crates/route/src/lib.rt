@@ -27,9 +27,9 @@ fn trail_length(parents: &[u32], start: usize, end: usize) -> usize
     ensures { λ r. ⌜ Tracked (now (parents .entry)) start end r ⌝ }
 {
     let mut n = 1;
-    let mut p = end;
-    while p != start {
-        p = wide(parents[p]) - 1;
+    let mut at = end;
+    while at != start {
+        at = wide(parents[at]) - 1;
         n += 1;
     }
     n
@@ -176,9 +176,9 @@ fn route_places(
     if !opens(marks, w, h, start, end) {
         return Way::NoWay;
     }
-    let s = search::seek(marks, w, h, parents, queue, start, end);
-    let r = tell(parents, out, left, top, w, h, start, end, s.found);
-    let used = s.used;
+    let ended = search::seek(marks, w, h, parents, queue, start, end);
+    let r = tell(parents, out, left, top, w, h, start, end, ended.found);
+    let used = ended.used;
     tidy(parents, queue, used);
     r
 }
@@ -201,10 +201,10 @@ fn chain_places(
     if !opens(marks, w, h, start, end) {
         return false;
     }
-    let s = search::seek(marks, w, h, parents, queue, start, end);
-    let used = s.used;
+    let ended = search::seek(marks, w, h, parents, queue, start, end);
+    let used = ended.used;
     tidy(parents, queue, used);
-    s.found
+    ended.found
 }
 
 // The place of a position in the window of w by h centers at (left, top).

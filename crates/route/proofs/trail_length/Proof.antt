@@ -29,8 +29,8 @@ shared-slice-read-wide c = counting-more (c .before .before .loop .inv) (c .befo
 wide-requires : tie.Need-wide-requires Inv-loop μ-loop
 wide-requires c κs = search needs
 
-sub-p : tie.Need-sub-p Inv-loop μ-loop
-sub-p c = let t = c .before .before in omega (arith, counting-more (t .before .loop .inv) (t .loop-test .taken), c .wide .ensures .0)
+sub-at : tie.Need-sub-at Inv-loop μ-loop
+sub-at c = let t = c .before .before in omega (arith, counting-more (t .before .loop .inv) (t .loop-test .taken), c .wide .ensures .0)
 
 add-n : tie.Need-add-n Inv-loop μ-loop
 add-n c = let t = c .before .before in omega (arith, counting-more (t .before .loop .inv) (t .loop-test .taken))
@@ -57,7 +57,7 @@ trail-length-spec =
     mul-wide
     shared-slice-read-wide
     wide-requires
-    sub-p
+    sub-at
     add-n
     loop-less
     loop-again
