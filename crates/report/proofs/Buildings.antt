@@ -9,8 +9,9 @@ use lib.Seq.{length-take-le, drop-cons, drop-drop, getD-take}
 use Rattle.model.specs.declared.WallPlacement.{WallPlacement}
 use Rattle.model.specs.Check.{noPlacement}
 use Rattle.model.specs.Report.{placementLine, issueLine, placementLines}
-use Rattle.report.specs.Writing.{Wrote, issueSum}
-use Rattle.report.proofs.Chain.{Going, ended}
+use Rattle.report.specs.Printing.{issueSum}
+use Rattle.text.specs.Writing.{Wrote}
+use Rattle.text.proofs.Chain.{Going, ended}
 
 abbrev pub nth : List WallPlacement → ℕ → WallPlacement
 nth ps i = getD ps i noPlacement

@@ -10,8 +10,9 @@ use Rattle.model.specs.declared.Passed.{Passed}
 use Rattle.model.specs.declared.WallPlacement.{WallPlacement}
 use Rattle.model.specs.Passage.{rank}
 use Rattle.model.specs.Report.{bytes, decimal, boxText, placementLine, kindNames, issueLine, placementLines, verdictNames, pointLine, reportText}
-use Rattle.report.specs.Writing.{Wrote, verdictText, passageText}
-use Rattle.report.proofs.Chain.{Going, ended, four-lengths}
+use Rattle.report.specs.Printing.{verdictText, passageText}
+use Rattle.text.specs.Writing.{Wrote}
+use Rattle.text.proofs.Chain.{Going, ended, four-lengths}
 
 six-and-one : (a b c d e f g : List ℕ) → (a ++ b) ++ ((c ++ d) ++ ((e ++ f) ++ g)) ≡ a ++ (b ++ (c ++ (d ++ (e ++ (f ++ g)))))
 six-and-one a b c d e f g = simp append-assoc

@@ -1,2 +1,2 @@
 -- The root of the crate's definitions.
-pub mod Writing
+pub mod Printing

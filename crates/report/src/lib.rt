@@ -1,104 +1,24 @@
-// A report as text in a buffer that the caller lends. Each function puts its text behind the first `at` bytes and answers where the text ends.
-ghost use mathlib.Core.Path.{_≡_};
-ghost use mathlib.Core.List.{_++_, flatMap};
+// A report as text in a buffer that the caller lends. Each inner function puts its text behind the first `at` bytes and answers where the text ends.
+ghost use mathlib.Core.List.{flatMap};
 ghost use Prim.Native.Nat.{_≤_};
 ghost use lib.ListN.{length, take};
-ghost use lib.IntN.{natAbs};
-ghost use Rattle.model.specs.Report.{bytes, decimal, spaced, boxText, placementLine, issueLine, placementLines, pointLine, reportText, refusedText};
-ghost use Rattle.report.specs.Writing.{Fits, Wrote, verdictText, passageText, issueSum, refusedRoom, Printable};
+ghost use Rattle.model.specs.Report.{placementLine, issueLine, placementLines, pointLine, reportText, refusedText};
+ghost use Rattle.text.specs.Writing.{Fits, Wrote};
+ghost use Rattle.report.specs.Printing.{verdictText, passageText, issueSum, refusedRoom, Printable};
 use model::Passed;
-use model::PixelRect;
 use model::WallCheck;
 use model::WallPassage;
 use model::WallPlacement;
-
-fn put(out: &mut [u8], at: usize, text: &[u8]) -> usize
-    requires { ⌜ Fits (now out) at (now text) ⌝ }
-    ensures { λ r. ⌜ Wrote (now (out .entry)) at (now (text .entry)) (now (out .exit)) r ⌝ }
-{
-    let mut k = 0;
-    while k < text.len() {
-        out[at + k] = text[k];
-        k += 1;
-    }
-    at + k
-}
-
-fn put_number(out: &mut [u8], at: usize, n: u64) -> usize
-    requires { ⌜ Fits (now out) at (decimal n) ⌝ }
-    ensures { λ r. ⌜ Wrote (now (out .entry)) at (decimal n) (now (out .exit)) r ⌝ }
-{
-    let mut digits = [0u8; 20];
-    let k = io::decimal(n, &mut digits);
-    put(out, at, &digits[..k])
-}
-
-// The label and the number behind it.
-fn put_labelled(out: &mut [u8], at: usize, label: &[u8], n: u64) -> usize
-    requires { ⌜ Fits (now out) at (now label ++ decimal n) ⌝ }
-    ensures { λ r. ⌜ Wrote (now (out .entry)) at (now (label .entry) ++ decimal n) (now (out .exit)) r ⌝ }
-{
-    let next = put(out, at, label);
-    put_number(out, next, n)
-}
-
-// The same as the end of a line.
-fn put_ending(out: &mut [u8], at: usize, label: &[u8], n: u64) -> usize
-    requires { ⌜ Fits (now out) at (now label ++ (decimal n ++ bytes "\n")) ⌝ }
-    ensures { λ r. ⌜ Wrote (now (out .entry)) at (now (label .entry) ++ (decimal n ++ bytes "\n")) (now (out .exit)) r ⌝ }
-{
-    let next = put_labelled(out, at, label, n);
-    put(out, next, b"\n")
-}
-
-// The magnitude of n. For n below 0 it is one more than what `!n` gives.
-fn magnitude(n: i32) -> u64
-    ensures { λ r. ⌜ r ≡ natAbs n ⌝ }
-{
-    if n < 0 { (!n) as u64 + 1 } else { n as u64 }
-}
-
-// A space, and the number.
-fn put_spaced(out: &mut [u8], at: usize, n: i32) -> usize
-    requires { ⌜ Fits (now out) at (spaced n) ⌝ }
-    ensures { λ r. ⌜ Wrote (now (out .entry)) at (spaced n) (now (out .exit)) r ⌝ }
-{
-    let m = magnitude(n);
-    if n < 0 {
-        put_labelled(out, at, b" -", m)
-    } else {
-        put_labelled(out, at, b" ", m)
-    }
-}
-
-// " LEFT TOP RIGHT BOTTOM"
-fn put_box(out: &mut [u8], at: usize, rect: PixelRect) -> usize
-    requires { ⌜ Fits (now out) at (boxText rect) ⌝ }
-    ensures { λ r. ⌜ Wrote (now (out .entry)) at (boxText rect) (now (out .exit)) r ⌝ }
-{
-    let top = put_spaced(out, at, rect.left);
-    let right = put_spaced(out, top, rect.top);
-    let bottom = put_spaced(out, right, rect.right);
-    put_spaced(out, bottom, rect.bottom)
-}
-
-fn put_labelled_box(out: &mut [u8], at: usize, label: &[u8], rect: PixelRect) -> usize
-    requires { ⌜ Fits (now out) at (now label ++ boxText rect) ⌝ }
-    ensures { λ r. ⌜ Wrote (now (out .entry)) at (now (label .entry) ++ boxText rect) (now (out .exit)) r ⌝ }
-{
-    let next = put(out, at, label);
-    put_box(out, next, rect)
-}
 
 // "placement INDEX footprint BOX collision BOX issues COUNT"
 fn put_placement(out: &mut [u8], at: usize, index: usize, placement: WallPlacement) -> usize
     requires { ⌜ Fits (now out) at (placementLine index placement) ⌝ }
     ensures { λ r. ⌜ Wrote (now (out .entry)) at (placementLine index placement) (now (out .exit)) r ⌝ }
 {
-    let footprint = put_labelled(out, at, b"placement ", index as u64);
-    let collision = put_labelled_box(out, footprint, b" footprint", placement.footprint);
-    let issues = put_labelled_box(out, collision, b" collision", placement.collision);
-    put_ending(out, issues, b" issues ", placement.issues as u64)
+    let footprint = text::put_labelled(out, at, b"placement ", index as u64);
+    let collision = text::put_labelled_box(out, footprint, b" footprint", placement.footprint);
+    let issues = text::put_labelled_box(out, collision, b" collision", placement.collision);
+    text::put_ending(out, issues, b" issues ", placement.issues as u64)
 }
 
 // "issue KIND INDEX": the kind stands in bits 25 and 26 of the word, the index in the low 13.
@@ -109,10 +29,10 @@ fn put_issue(out: &mut [u8], at: usize, word: u32) -> usize
     let kind = word / 33554432 % 4;
     let index = (word % 8192) as u64;
     match kind {
-        0 => put_ending(out, at, b"issue OutOfMap ", index),
-        1 => put_ending(out, at, b"issue UnbuildableTerrain ", index),
-        2 => put_ending(out, at, b"issue OverlapsObstacle ", index),
-        _ => put_ending(out, at, b"issue OverlapsBuilding ", index),
+        0 => text::put_ending(out, at, b"issue OutOfMap ", index),
+        1 => text::put_ending(out, at, b"issue UnbuildableTerrain ", index),
+        2 => text::put_ending(out, at, b"issue OverlapsObstacle ", index),
+        _ => text::put_ending(out, at, b"issue OverlapsBuilding ", index),
     }
 }
 
@@ -160,11 +80,11 @@ fn put_verdict(out: &mut [u8], at: usize, passage: WallPassage) -> usize
     ensures { λ r. ⌜ Wrote (now (out .entry)) at (verdictText passage) (now (out .exit)) r ⌝ }
 {
     match passage {
-        WallPassage::StartBlocked => put(out, at, b"passage StartBlocked"),
-        WallPassage::EndBlocked => put(out, at, b"passage EndBlocked"),
-        WallPassage::Open => put(out, at, b"passage Open"),
-        WallPassage::AlreadyDisconnected => put(out, at, b"passage AlreadyDisconnected"),
-        WallPassage::BlockedWithinWindow => put(out, at, b"passage BlockedWithinWindow"),
+        WallPassage::StartBlocked => text::put(out, at, b"passage StartBlocked"),
+        WallPassage::EndBlocked => text::put(out, at, b"passage EndBlocked"),
+        WallPassage::Open => text::put(out, at, b"passage Open"),
+        WallPassage::AlreadyDisconnected => text::put(out, at, b"passage AlreadyDisconnected"),
+        WallPassage::BlockedWithinWindow => text::put(out, at, b"passage BlockedWithinWindow"),
     }
 }
 
@@ -177,9 +97,9 @@ fn put_passage(out: &mut [u8], at: usize, passed: Passed) -> usize
     let next = put_verdict(out, at, passage);
     let points = passed.points as u64;
     if passed.baseline_passable {
-        put_ending(out, next, b"\nbaseline 1\nroute ", points)
+        text::put_ending(out, next, b"\nbaseline 1\nroute ", points)
     } else {
-        put_ending(out, next, b"\nbaseline 0\nroute ", points)
+        text::put_ending(out, next, b"\nbaseline 0\nroute ", points)
     }
 }
 
@@ -188,8 +108,8 @@ fn put_point(out: &mut [u8], at: usize, word: u32) -> usize
     requires { ⌜ Fits (now out) at (pointLine word) ⌝ }
     ensures { λ r. ⌜ Wrote (now (out .entry)) at (pointLine word) (now (out .exit)) r ⌝ }
 {
-    let next = put_number(out, at, (word / 65536) as u64);
-    put_ending(out, next, b" ", (word % 65536) as u64)
+    let next = text::put_number(out, at, (word / 65536) as u64);
+    text::put_ending(out, next, b" ", (word % 65536) as u64)
 }
 
 fn put_points(out: &mut [u8], at: usize, words: &[u32]) -> usize
@@ -219,7 +139,7 @@ pub fn report(
     let placements = check.placements;
     let passed = check.passed;
     let points = passed.points;
-    let first = put(out, 0, b"check ok\n");
+    let first = text::put(out, 0, b"check ok\n");
     let passage = put_placements(out, first, placements, count, issues);
     let end = put_passage(out, passage, passed);
     put_points(out, end, &route[..points])
@@ -230,5 +150,5 @@ pub fn refused(out: &mut [u8], number: usize) -> usize
     requires { ⌜ refusedRoom ≤ length (now out) ⌝ }
     ensures { λ r. ⌜ Wrote (now (out .entry)) 0 (refusedText number) (now (out .exit)) r ⌝ }
 {
-    put_ending(out, 0, b"refused ", number as u64)
+    text::put_ending(out, 0, b"refused ", number as u64)
 }

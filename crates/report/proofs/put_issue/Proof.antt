@@ -4,7 +4,7 @@ use mathlib.Core.Path.{_≡_, sym, ap}
 use Prim.Native.Nat.{_/_, _%_, _^_}
 use native.Mathlib.Omega.{arith}
 use lib.ListN.{length}
-use Rattle.report.proofs.Chain.{said}
+use Rattle.text.proofs.Chain.{said}
 use Rattle.report.proofs.Lines.{issue-line}
 use Rattle.report.proofs.put_issue.Statement.{statement}
 use Rattle.report.proofs.put_issue.Tie as tie

@@ -6,7 +6,7 @@ use Prim.Native.Nat.{ℕ}
 use native.Mathlib.Omega.{arith}
 use lib.ListN.{length, length-append}
 use Rattle.model.specs.Report.{bytes}
-use Rattle.report.proofs.Chain.{then, said}
+use Rattle.text.proofs.Chain.{then, said}
 use Rattle.report.proofs.Lines.{passage-lines}
 use Rattle.report.proofs.put_passage.Statement.{statement}
 use Rattle.report.proofs.put_passage.Tie as tie

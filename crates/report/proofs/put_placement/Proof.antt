@@ -6,7 +6,7 @@ use native.Mathlib.Omega.{arith}
 use lib.ListN.{length}
 use denote.Ref.{now}
 use Rattle.model.specs.Report.{bytes, decimal, boxText}
-use Rattle.report.proofs.Chain.{then, said}
+use Rattle.text.proofs.Chain.{then, said}
 use Rattle.report.proofs.Lines.{placement-line, placement-length}
 use Rattle.report.proofs.put_placement.Statement.{statement}
 use Rattle.report.proofs.put_placement.Tie as tie

@@ -7,8 +7,8 @@ use lib.ListN.{length, take, drop}
 use denote.Ref.{now}
 use Rattle.model.specs.declared.WallPlacement.{WallPlacement}
 use Rattle.model.specs.Report.{issueLine, placementLine, placementLines}
-use Rattle.report.specs.Writing.{issueSum}
-use Rattle.report.proofs.Chain.{Going, started, went, said, next-fits}
+use Rattle.report.specs.Printing.{issueSum}
+use Rattle.text.proofs.Chain.{Going, started, went, said, next-fits}
 use Rattle.report.proofs.Buildings.{nth, sum-next, one-building, no-building}
 use Rattle.report.proofs.put_placements.Statement.{statement}
 use Rattle.report.proofs.put_placements.Tie as tie

@@ -3,7 +3,7 @@ use borrow.Author.Needs.{needs}
 use native.Mathlib.Omega.{arith}
 use lib.ListN.{length-append}
 use Rattle.model.specs.Report.{pointLine}
-use Rattle.report.proofs.Chain.{then}
+use Rattle.text.proofs.Chain.{then}
 use Rattle.report.proofs.put_point.Statement.{statement}
 use Rattle.report.proofs.put_point.Tie as tie
 

@@ -6,7 +6,7 @@ use native.Mathlib.Omega.{arith}
 use lib.ListN.{length, drop, getD}
 use denote.Ref.{now}
 use Rattle.model.specs.Report.{pointLine}
-use Rattle.report.proofs.Chain.{Going, started, went, next-fits}
+use Rattle.text.proofs.Chain.{Going, started, went, next-fits}
 use Rattle.report.proofs.Lines.{one-line, no-line}
 use Rattle.report.proofs.put_points.Statement.{statement}
 use Rattle.report.proofs.put_points.Tie as tie

@@ -3,8 +3,8 @@ use borrow.Author.Needs.{needs}
 use mathlib.Core.Path.{sym, ap}
 use native.Mathlib.Omega.{arith}
 use lib.ListN.{length}
-use Rattle.report.specs.Writing.{verdictText}
-use Rattle.report.proofs.Chain.{said}
+use Rattle.report.specs.Printing.{verdictText}
+use Rattle.text.proofs.Chain.{said}
 use Rattle.report.proofs.put_verdict.Statement.{statement}
 use Rattle.report.proofs.put_verdict.Tie as tie
 

@@ -9,8 +9,8 @@ use lib.Seq.{length-take-le}
 use denote.Ref.{now}
 use Rattle.model.specs.declared.WallPlacement.{WallPlacement}
 use Rattle.model.specs.Report.{bytes, placementLines, pointLine}
-use Rattle.report.specs.Writing.{passageText}
-use Rattle.report.proofs.Chain.{then, said}
+use Rattle.report.specs.Printing.{passageText}
+use Rattle.text.proofs.Chain.{then, said}
 use Rattle.report.proofs.Lines.{report-text, report-length}
 use Rattle.report.proofs.Sizes.{report-short}
 use Rattle.report.proofs.report.Statement.{statement}

@@ -1,25 +1,14 @@
--- Text put into a lent buffer: what a call leaves there, and how much room a report needs. Assumes nothing.
-use mathlib.Core.Path.{_≡_}
+-- The pieces of a report, what it counts, and how much room it needs. Assumes nothing.
 use mathlib.Core.Bool.{cond}
 use mathlib.Core.List.{List, [], _∷_, _++_}
 use Prim.Native.Nat.{ℕ, _+_, _≤_}
-use lib.ListN.{length, take, drop, getD}
+use lib.ListN.{length, take, getD}
 use Rattle.model.specs.declared.Passed.{Passed}
 use Rattle.model.specs.declared.WallCheck.{WallCheck}
 use Rattle.model.specs.declared.WallPassage.{WallPassage}
 use Rattle.model.specs.declared.WallPlacement.{WallPlacement}
 use Rattle.model.specs.Passage.{rank}
 use Rattle.model.specs.Report.{bytes, decimal, verdictNames}
-
--- behind the first `at` bytes there is room for the text
-abbrev pub Fits : List ℕ → ℕ → List ℕ → Type 0
-Fits out at text = at + length text ≤ length out
-
--- The text was put behind the first `at` bytes, which stay, and ends at r; the bytes from r on stay too.
-pub record Wrote (before : List ℕ) (at : ℕ) (text after : List ℕ) (r : ℕ) : Type 0 where
-  pub next : r ≡ at + length text
-  pub front : take r after ≡ take at before ++ text
-  pub rest : drop r after ≡ drop r before
 
 -- the verdict's line, but for its end
 abbrev pub verdictText : WallPassage → List ℕ

@@ -1,12 +1,12 @@
--- `report::put_number` meets its contract: the digits that `io::decimal` gives are the decimal text. Assumes nothing.
+-- `text::put_number` meets its contract: the digits that `io::decimal` gives are the decimal text. Assumes nothing.
 use borrow.Author.Needs.{needs}
 use mathlib.Core.Path.{ap, _∙_}
 use native.Mathlib.Omega.{arith}
 use lib.ListN.{length}
-use Rattle.report.proofs.Chain.{said}
-use Rattle.report.proofs.Spelt.{spelt}
-use Rattle.report.proofs.put_number.Statement.{statement}
-use Rattle.report.proofs.put_number.Tie as tie
+use Rattle.text.proofs.Chain.{said}
+use Rattle.text.proofs.Spelt.{spelt}
+use Rattle.text.proofs.put_number.Statement.{statement}
+use Rattle.text.proofs.put_number.Tie as tie
 
 decimal-requires : tie.Need-decimal-requires
 decimal-requires c κs = search needs

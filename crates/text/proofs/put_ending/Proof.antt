@@ -1,13 +1,13 @@
--- `report::put_ending` meets its contract. Assumes nothing.
+-- `text::put_ending` meets its contract. Assumes nothing.
 use borrow.Author.Needs.{needs}
 use mathlib.Core.List.{append-assoc}
 use native.Mathlib.Omega.{arith}
 use lib.ListN.{length-append}
 use denote.Ref.{now}
 use Rattle.model.specs.Report.{bytes, decimal}
-use Rattle.report.proofs.Chain.{then, said}
-use Rattle.report.proofs.put_ending.Statement.{statement}
-use Rattle.report.proofs.put_ending.Tie as tie
+use Rattle.text.proofs.Chain.{then, said}
+use Rattle.text.proofs.put_ending.Statement.{statement}
+use Rattle.text.proofs.put_ending.Tie as tie
 
 put-labelled-requires : tie.Need-put-labelled-requires
 put-labelled-requires c κs = simp length-append (omega (arith, simp length-append at (c .before .before .before .pre)))

@@ -1,4 +1,4 @@
--- `report::put` meets its contract. After k turns the first k bytes of the text are pasted over the buffer. Assumes nothing.
+-- `text::put` meets its contract. After k turns the first k bytes of the text are pasted over the buffer. Assumes nothing.
 use native.Mathlib.Omega.{arith}
 use Prim.Native.Nat.{_+_, _-_, _≤_}
 use mathlib.Core.Path.{_≡_, refl, ap, _∙_}
@@ -6,8 +6,8 @@ use native.Mathlib.Numerals.{add-one}
 use lib.ListN.{length, take, drop, length-set}
 use lib.Seq.{paste, paste-zero, paste-suc, take-paste, drop-paste, take-all}
 use denote.Ref.{now}
-use Rattle.report.proofs.put.Statement.{statement}
-use Rattle.report.proofs.put.Tie as tie
+use Rattle.text.proofs.put.Statement.{statement}
+use Rattle.text.proofs.put.Tie as tie
 
 abbrev Inv-loop : tie.InvT-loop
 Inv-loop out₀ at text k₀ out k =

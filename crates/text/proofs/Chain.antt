@@ -5,7 +5,7 @@ use Prim.Native.Nat.{ℕ, _+_, _≤_}
 use native.Mathlib.Omega.{arith}
 use lib.ListN.{length, take, drop, length-append}
 use lib.Seq.{drop-drop}
-use Rattle.report.specs.Writing.{Wrote}
+use Rattle.text.specs.Writing.{Wrote}
 
 nothing : (a : List ℕ) (i : ℕ) → Wrote a i [] a i
 nothing a i = record { next = omega arith; front = sym (append-nil (take i a)); rest = refl }
@@ -36,13 +36,13 @@ pub record Going (before : List ℕ) (at : ℕ) (whole rest after : List ℕ) (r
 pub started : (a : List ℕ) (i : ℕ) (w : List ℕ) → Going a i w w a i
 started a i w = record { left = refl; ends = λ q. q }
 
-module _ {a w rest b : List ℕ} {i j : ℕ} where
-  pub went : {t c : List ℕ} {k : ℕ} → Going a i w (t ++ rest) b j → Wrote b j t c k → Going a i w rest c k
-  went {t} g p = record { left = omega (arith, g .left, p .next, length-append t rest); ends = λ q. g .ends (then p q) }
+pub went : {a w t rest b c : List ℕ} {i j k : ℕ} → Going a i w (t ++ rest) b j → Wrote b j t c k → Going a i w rest c k
+went {t = t} {rest = rest} g p = record { left = omega (arith, g .left, p .next, length-append t rest); ends = λ q. g .ends (then p q) }
 
 -- the next text has room where the whole has
 pub next-fits : {a w b : List ℕ} {i j n : ℕ} (t rest : List ℕ) → Going a i w (t ++ rest) b j → i + length w ≤ n → j + length t ≤ n
 next-fits t rest g h = omega (arith, g .left, length-append t rest)
 
+-- nothing is left
 pub ended : {a w b : List ℕ} {i j : ℕ} → Going a i w [] b j → Wrote a i w b j
 ended {b = b} {j = j} g = g .ends (nothing b j)
