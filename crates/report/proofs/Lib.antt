@@ -2,3 +2,4 @@
 pub mod Lines
 pub mod Buildings
 pub mod Sizes
+pub mod Areas

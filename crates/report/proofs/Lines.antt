@@ -12,7 +12,7 @@ use Rattle.model.specs.Passage.{rank}
 use Rattle.model.specs.Report.{bytes, decimal, boxText, placementLine, kindNames, issueLine, placementLines, verdictNames, pointLine, reportText}
 use Rattle.report.specs.Printing.{verdictText, passageText}
 use Rattle.text.specs.Writing.{Wrote}
-use Rattle.text.proofs.Chain.{Going, ended, four-lengths}
+use Rattle.text.proofs.Chain.{four-lengths, Going, went, next-fits, ended}
 
 six-and-one : (a b c d e f g : List ℕ) → (a ++ b) ++ ((c ++ d) ++ ((e ++ f) ++ g)) ≡ a ++ (b ++ (c ++ (d ++ (e ++ (f ++ g)))))
 six-and-one a b c d e f g = simp append-assoc
@@ -59,12 +59,23 @@ pub report-length : (ps : List WallPlacement) (issues : List ℕ) (p : Passed) (
 report-length ps issues p points =
     ap length (sym (report-text ps issues p points)) ∙ four-lengths (bytes "check ok\n") (placementLines 0 ps issues) (passageText p) (flatMap pointLine points)
 
--- A loop that puts a line for each word: line i is next, or none is left.
-module _ (f : ℕ → List ℕ) (l : List ℕ) (i : ℕ) {a w b : List ℕ} {at j : ℕ} where
-  pub one-line : i < length l → Going a at w (flatMap f (drop i l)) b j → Going a at w (f (getD l i 0) ++ flatMap f (drop (i + 1) l)) b j
-  unfolding flatMap
-  one-line h g = subst (λ (t : List ℕ). Going a at w t b j) (ap (flatMap f) (drop-cons l i 0 h) ∙ ap (λ (n : ℕ). f (getD l i 0) ++ flatMap f (drop n l)) (sym (add-one i))) g
+-- A loop that puts a line for each word: the lines from word i on are left.
+abbrev pub LinesLeft : (ℕ → List ℕ) → List ℕ → ℕ → List ℕ → ℕ → List ℕ → ℕ → Type 0
+LinesLeft f l i a at b j = Going a at (flatMap f l) (flatMap f (drop i l)) b j
 
-  pub no-line : length l ≤ i → Going a at w (flatMap f (drop i l)) b j → Wrote a at w b j
+module _ (f : ℕ → List ℕ) (l : List ℕ) (i : ℕ) {a b : List ℕ} {at j : ℕ} (g : LinesLeft f l i a at b j) where
+  one-line : i < length l → Going a at (flatMap f l) (f (getD l i 0) ++ flatMap f (drop (i + 1) l)) b j
   unfolding flatMap
-  no-line h g = ended (subst (λ (t : List ℕ). Going a at w t b j) (ap (flatMap f) (drop-of-length-le l h)) g)
+  one-line h =
+      subst (λ (t : List ℕ). Going a at (flatMap f l) t b j)
+      (ap (flatMap f) (drop-cons l i 0 h) ∙ ap (λ (n : ℕ). f (getD l i 0) ++ flatMap f (drop n l)) (sym (add-one i))) g
+
+  pub line-fits : {n : ℕ} → i < length l → at + length (flatMap f l) ≤ n → j + length (f (getD l i 0)) ≤ n
+  line-fits h room = next-fits (f (getD l i 0)) (flatMap f (drop (i + 1) l)) (one-line h) room
+
+  pub line-put : {c : List ℕ} {k : ℕ} → i < length l → Wrote b j (f (getD l i 0)) c k → LinesLeft f l (i + 1) a at c k
+  line-put h w = went (one-line h) w
+
+  pub lines-end : length l ≤ i → Wrote a at (flatMap f l) b j
+  unfolding flatMap
+  lines-end h = ended (subst (λ (t : List ℕ). Going a at (flatMap f l) t b j) (ap (flatMap f) (drop-of-length-le l h)) g)

@@ -36,6 +36,7 @@ fn put_issue(out: &mut [u8], at: usize, word: u32) -> usize
     }
 }
 
+// A line for each word.
 fn put_issues(out: &mut [u8], at: usize, words: &[u32]) -> usize
     requires { ⌜ Fits (now out) at (flatMap issueLine (now words)) ⌝ }
     ensures { λ r. ⌜ Wrote (now (out .entry)) at (flatMap issueLine (now (words .entry))) (now (out .exit)) r ⌝ }
@@ -112,6 +113,7 @@ fn put_point(out: &mut [u8], at: usize, word: u32) -> usize
     text::put_ending(out, next, b" ", (word % 65536) as u64)
 }
 
+// A line for each word.
 fn put_points(out: &mut [u8], at: usize, words: &[u32]) -> usize
     requires { ⌜ Fits (now out) at (flatMap pointLine (now words)) ⌝ }
     ensures { λ r. ⌜ Wrote (now (out .entry)) at (flatMap pointLine (now (words .entry))) (now (out .exit)) r ⌝ }

@@ -6,6 +6,7 @@ ghost use Rattle.model.specs.Report.{bytes, decimal, spaced, boxText};
 ghost use Rattle.text.specs.Writing.{Fits, Wrote};
 use model::PixelRect;
 
+// The bytes of the text.
 pub fn put(out: &mut [u8], at: usize, text: &[u8]) -> usize
     requires { ⌜ Fits (now out) at (now text) ⌝ }
     ensures { λ r. ⌜ Wrote (now (out .entry)) at (now (text .entry)) (now (out .exit)) r ⌝ }
@@ -18,6 +19,7 @@ pub fn put(out: &mut [u8], at: usize, text: &[u8]) -> usize
     at + k
 }
 
+// The decimal digits of n.
 pub fn put_number(out: &mut [u8], at: usize, n: u64) -> usize
     requires { ⌜ Fits (now out) at (decimal n) ⌝ }
     ensures { λ r. ⌜ Wrote (now (out .entry)) at (decimal n) (now (out .exit)) r ⌝ }
@@ -36,7 +38,7 @@ pub fn put_labelled(out: &mut [u8], at: usize, label: &[u8], n: u64) -> usize
     put_number(out, next, n)
 }
 
-// The same as the end of a line.
+// The label and the number, at the end of a line.
 pub fn put_ending(out: &mut [u8], at: usize, label: &[u8], n: u64) -> usize
     requires { ⌜ Fits (now out) at (now label ++ (decimal n ++ bytes "\n")) ⌝ }
     ensures { λ r. ⌜ Wrote (now (out .entry)) at (now (label .entry) ++ (decimal n ++ bytes "\n")) (now (out .exit)) r ⌝ }
@@ -76,6 +78,7 @@ fn put_box(out: &mut [u8], at: usize, rect: PixelRect) -> usize
     put_spaced(out, bottom, rect.bottom)
 }
 
+// The label and the box behind it.
 pub fn put_labelled_box(out: &mut [u8], at: usize, label: &[u8], rect: PixelRect) -> usize
     requires { ⌜ Fits (now out) at (now label ++ boxText rect) ⌝ }
     ensures { λ r. ⌜ Wrote (now (out .entry)) at (now (label .entry) ++ boxText rect) (now (out .exit)) r ⌝ }

@@ -46,11 +46,15 @@ same-length c = search needs
 
 returns : tie.Need-returns
 returns c =
-    let s = c .before .before .before .before .before .before .before .before .before .before .before .before .before .before .before .before .before .before .before .before .before in
-    said (placement-line (s .args .index) (s .args .placement))
-    (then (c .before .before .before .before .before .before .before .before .before .before .before .before .before .before .before .before .before .put-labelled .ensures)
-    (then (c .before .before .before .before .before .before .before .before .before .before .before .before .put-labelled-box .ensures)
-    (then (c .before .before .before .before .before .before .before .put-labelled-box2 .ensures) (c .before .before .put-ending .ensures))))
+    let last = c .before .before in
+    let third = last .before .before .before .before .before in
+    let second = third .before .before .before .before .before in
+    let first = second .before .before .before .before .before in
+    let a = first .before .before .before .before .args in
+    said (placement-line (a .index) (a .placement))
+    (then (first .put-labelled .ensures)
+    (then (second .put-labelled-box .ensures)
+    (then (third .put-labelled-box2 .ensures) (last .put-ending .ensures))))
 
 pub put-placement-spec : {M : Type 1} → statement M
 put-placement-spec =

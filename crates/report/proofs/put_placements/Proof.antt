@@ -26,11 +26,17 @@ long : (c : tie.Start Inv-loop μ-loop) → c .args .count ≤ length (c .args .
 long c = omega (arith, c .pre .0, c .good .1 .1 .0 .1 .0 .1)
 
 module _ (c : tie.In-loop Inv-loop μ-loop) where
+  abbrev start : tie.Start Inv-loop μ-loop
+  start = c .before .before .before .before
+
+  abbrev count : ℕ
+  count = start .args .count
+
   abbrev placed : List WallPlacement
-  placed = c .before .before .before .before .args .t3
+  placed = start .args .t3
 
   abbrev words : List ℕ
-  words = now (c .before .before .before .before .args .words)
+  words = now (start .args .words)
 
   abbrev i : ℕ
   i = c .before .loop .i
@@ -38,22 +44,30 @@ module _ (c : tie.In-loop Inv-loop μ-loop) where
   abbrev from : ℕ
   from = c .before .loop .from
 
-  -- the issues of building i, as the slice has them
+  -- how many of the words are building i's
+  abbrev own : ℕ
+  own = nth placed i .issues
+
+  -- the lines of the first n words that are left
   abbrev lines : ℕ → List ℕ
   lines n = flatMap issueLine (take n (drop from words))
 
-  whole-slice : lines (from + nth placed i .issues - from) ≡ lines (nth placed i .issues)
-  whole-slice = let e : from + nth placed i .issues - from ≡ nth placed i .issues = omega arith in ap lines e
+  own-lines : lines (from + own - from) ≡ lines own
+  own-lines = let e : from + own - from ≡ own = omega arith in ap lines e
 
   -- building i's words are there
-  words-there : from + (nth placed i .issues + issueSum (drop (i + 1) (take (c .before .before .before .before .args .count) placed))) ≤ length words
-  words-there = omega (arith, c .before .loop .inv .1, sum-next placed (c .before .before .before .before .args .count) i (long (c .before .before .before .before)) (c .loop-test .taken))
+  words-there : from + (own + issueSum (drop (i + 1) (take count placed))) ≤ length words
+  words-there = omega (arith, c .before .loop .inv .1, sum-next placed count i (long start) (c .loop-test .taken))
 
   -- its lines are next
-  next : Going (now (c .before .before .before .before .args .out)) (c .before .before .before .before .args .at) (placementLines 0 (take (c .before .before .before .before .args .count) placed) words)
-      (placementLine i (nth placed i) ++ (lines (nth placed i .issues) ++ placementLines (i + 1) (drop (i + 1) (take (c .before .before .before .before .args .count) placed)) (drop (from + nth placed i .issues) words)))
+  next : Going (now (start .args .out)) (start .args .at) (placementLines 0 (take count placed) words)
+      (placementLine i (nth placed i) ++ (lines own ++ placementLines (i + 1) (drop (i + 1) (take count placed)) (drop (from + own) words)))
       (c .before .loop .out) (c .before .loop .end)
-  next = one-building placed (c .before .before .before .before .args .count) i (long (c .before .before .before .before)) (c .loop-test .taken) words from (c .before .loop .inv .3)
+  next = one-building placed count i (long start) (c .loop-test .taken) words from (c .before .loop .inv .3)
+
+  -- and have room
+  placement-fits : c .before .loop .end + length (placementLine i (nth placed i)) ≤ length (now (start .args .out))
+  placement-fits = next-fits (placementLine i (nth placed i)) _ next (start .pre .2)
 
 loop-holds : tie.Need-loop-holds Inv-loop μ-loop
 loop-holds c = (omega arith, omega arith, refl, started (now (c .before .before .args .out)) (c .before .before .args .at) _)
@@ -68,9 +82,7 @@ add-to : tie.Need-add-to Inv-loop μ-loop
 add-to c = omega (arith, words-there (c .before .before))
 
 put-placement-requires : tie.Need-put-placement-requires Inv-loop μ-loop
-put-placement-requires c κs =
-    let l = c .before .before .before in
-    omega (arith, next-fits (placementLine (i l) (nth (placed l) (i l))) _ (next l) (c .before .before .before .before .before .before .before .pre .2))
+put-placement-requires c κs = omega (arith, placement-fits (c .before .before .before))
 
 mul-put-issues : tie.Need-mul-put-issues Inv-loop μ-loop
 mul-put-issues c = omega (arith, words-there (c .before .before .before .before .before .before .before))
@@ -86,8 +98,9 @@ part-put-issues-end c = omega (arith, words-there (c .before .before .before .be
 
 put-issues-requires : tie.Need-put-issues-requires Inv-loop μ-loop
 put-issues-requires c κs =
-    let l = c .before .before .before .before .before .before .before .before in
-    omega (arith, ap length (whole-slice l), next-fits (lines l (nth (placed l) (i l) .issues)) _ (went (next l) (c .before .before .before .before .put-placement .ensures)) (c .before .before .before .before .before .before .before .before .before .before .before .before .pre .2))
+    let put = c .before .before .before .before in
+    let l = put .before .before .before .before in
+    omega (arith, ap length (own-lines l), next-fits (lines l (own l)) _ (went (next l) (put .put-placement .ensures)) (start l .pre .2))
 
 add-i : tie.Need-add-i Inv-loop μ-loop
 add-i c = omega arith
@@ -97,8 +110,10 @@ loop-less c = omega arith
 
 loop-again : tie.Need-loop-again Inv-loop μ-loop
 loop-again c =
-    let l = c .before .before .before .before .before .before .before .before .before .before .before in
-    (omega arith, omega (arith, words-there l), omega arith, went (went (next l) (c .before .before .before .before .before .before .before .put-placement .ensures)) (said (whole-slice l) (c .before .before .put-issues .ensures)))
+    let issues = c .before .before in
+    let put = issues .before .before .before .before .before in
+    let l = put .before .before .before .before in
+    (omega arith, omega (arith, words-there l), omega arith, went (went (next l) (put .put-placement .ensures)) (said (own-lines l) (issues .put-issues .ensures)))
 
 same-length : tie.Need-same-length Inv-loop μ-loop
 same-length c = c .before .loop .inv .2

@@ -63,11 +63,15 @@ same-length c = search needs
 
 returns : tie.Need-returns
 returns c =
-    let s = c .before .before .before .before .before .before .before .before .before .before .before .before .before .before .before .before .before .before .before .before .before .before .before in
+    let last = c .before .before in
+    let third = last .before .before .before .before .before in
+    let second = third .before .before .before .before in
+    let first = second .before .before .before .before in
+    let s = first .before .before .before .before .before .before .before .before in
     said (report-text (placed s) (now (s .args .issues)) (s .args .check .passed) (points s))
-    (then (c .before .before .before .before .before .before .before .before .before .before .before .before .before .before .before .put .ensures)
-    (then (c .before .before .before .before .before .before .before .before .before .before .before .put-placements .ensures)
-    (then (c .before .before .before .before .before .before .before .put-passage .ensures) (c .before .before .put-points .ensures))))
+    (then (first .put .ensures)
+    (then (second .put-placements .ensures)
+    (then (third .put-passage .ensures) (last .put-points .ensures))))
 
 pub report-spec : {M : Type 1} → statement M
 report-spec =

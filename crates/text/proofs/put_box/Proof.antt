@@ -63,11 +63,14 @@ same-length c = search needs
 
 returns : tie.Need-returns
 returns c =
-    let e = sides (c .before .before .before .before .before .before .before .before .before .before .before .before .before .before .before .before .before .before .before .before .before) in
-    then (said (e .0) (c .before .before .before .before .before .before .before .before .before .before .before .before .before .before .before .before .before .put-spaced .ensures))
-    (then (said (e .1) (c .before .before .before .before .before .before .before .before .before .before .before .before .put-spaced2 .ensures))
-    (then (said (e .2) (c .before .before .before .before .before .before .before .put-spaced3 .ensures))
-    (said (e .3) (c .before .before .put-spaced4 .ensures))))
+    let bottom = c .before .before in
+    let right = bottom .before .before .before .before .before in
+    let top = right .before .before .before .before .before in
+    let left = top .before .before .before .before .before in
+    let e = sides (left .before .before .before .before) in
+    then (said (e .0) (left .put-spaced .ensures))
+    (then (said (e .1) (top .put-spaced2 .ensures))
+    (then (said (e .2) (right .put-spaced3 .ensures)) (said (e .3) (bottom .put-spaced4 .ensures))))
 
 pub put-box-spec : {M : Type 1} → statement M
 put-box-spec =
