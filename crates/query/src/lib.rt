@@ -1,4 +1,4 @@
-// When a query is refused, 1 to 16 in the table's order and then 17. One stage a function; each answers an Outcome, which the next one opens.
+// When a query is refused: 1 to 16, in the table's order. One stage a function; each answers an Outcome, which the next one opens.
 ghost use mathlib.Core.Path.{_≡_};
 ghost use mathlib.Core.List.{[], _∷_};
 ghost use Prim.Native.Nat.{_*_, _≤_};
