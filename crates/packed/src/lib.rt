@@ -122,7 +122,7 @@ fn no_building() -> WallBuilding
 
 impl Bits {
     // The next n bits, those past the end counted as 0, and the position past them.
-    pub fn get(self, s: &[u8], n: u32) -> Got
+    fn get(self, s: &[u8], n: u32) -> Got
         requires { ⌜ (n ≤ 32) × (self .at < 4611686018427387904) ⌝ }
         ensures { λ r. ⌜ (r .value ≡ fieldAt (now (s .entry)) (self .at) n) × (r .next .at ≡ self .at + n) × (r .value < 2 ^ n) ⌝ }
     {
