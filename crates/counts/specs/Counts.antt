@@ -19,10 +19,6 @@ pub record Lifted (b : PixelRect) (r : Raised) : Type 0 where
   pub right : r .right < 2 ^ 62
   pub bottom : r .bottom < 2 ^ 62
 
--- the map and the obstacles
-abbrev pub ground : ℕ → ℕ → List ℕ → List ℤ → Ground
-ground width height cells words = record { width = width; height = height; cells = cells; words = words }
-
 -- a center of the window is blocked: not free of the boxes
 abbrev pub blocked : Ground → Frame → CollisionBounds → List PixelRect → ℕ → ℕ → Bool
 blocked g f m boxes x y = not (free g m boxes (f .left + x) (f .top + y))

@@ -11,10 +11,10 @@ ghost use mathlib.Core.List.{map};
 ghost use Prim.Native.Nat.{_*_, _≤_};
 ghost use lib.ListN.{length};
 ghost use Rattle.model.specs.Boxes.{collisionBox};
-ghost use Rattle.model.specs.Ground.{rects, built};
+ghost use Rattle.model.specs.Ground.{ground, rects, built};
 ghost use Rattle.model.specs.Refusal.{caps};
 ghost use Rattle.stamps.specs.Stamps.{Framed, Adds, Counted, stop, stops};
-ghost use Rattle.counts.specs.Counts.{Lifted, Surveyed, blockedBefore, ground, groundCap};
+ghost use Rattle.counts.specs.Counts.{Lifted, Surveyed, blockedBefore, groundCap};
 
 // `biased` carries up by 2^31; this much more makes CARRY.
 const HALF: u64 = 2147483648;

@@ -10,7 +10,7 @@ ghost use Prim.Native.Nat.{_+_, _*_, _<_, _≤_};
 ghost use lib.Dec.{ltb};
 ghost use lib.IntN.{pos, natAbs};
 ghost use lib.ListN.{length, getD};
-ghost use Rattle.counts.specs.Counts.{ground};
+ghost use Rattle.model.specs.Ground.{ground};
 ghost use Rattle.marks.specs.Marks.{Centers, Ready, Roomy, areas, frameOf, markOf};
 ghost use Rattle.marks.specs.Passes.{Row, Part, Settled};
 

@@ -10,10 +10,10 @@ use Rattle.model.specs.declared.PixelRect.{PixelRect}
 use Rattle.model.specs.declared.WallBuilding.{WallBuilding}
 use Rattle.model.specs.declared.BuildingGeometry.{BuildingGeometry}
 use Rattle.model.specs.Boxes.{footprintBox}
-use Rattle.model.specs.Ground.{rects}
+use Rattle.model.specs.Ground.{ground, rects}
 use Rattle.model.specs.Placement.{Issue, badCells, issuesOf, issueWord}
 use Rattle.placement.specs.Issues.{Put}
-use Rattle.placement.specs.Assessed.{OneAssessed, ground, boxesOf, groundWords, obstacleWords, buildingWords}
+use Rattle.placement.specs.Assessed.{OneAssessed, boxesOf, groundWords, obstacleWords, buildingWords}
 use Rattle.placement.proofs.Puts.{put-length, then}
 
 module _ (width height : ℕ) (cells : List ℕ) (words : List ℤ) (bs : List WallBuilding) (k : ℕ) (b : WallBuilding) where

@@ -23,9 +23,6 @@ use Rattle.model.specs.Packed.{noBuilding}
 use Rattle.footprints.specs.Cells.{badUnder, nonEmpty}
 use Rattle.placement.specs.Issues.{Put, noted}
 
-abbrev pub ground : ℕ → ℕ → List ℕ → List ℤ → Ground
-ground width height cells words = record { width = width; height = height; cells = cells; words = words }
-
 abbrev pub boxesOf : WallBuilding → BuildingGeometry
 boxesOf b = record { footprint = footprintBox b; collision = collisionBox b }
 

@@ -5,7 +5,7 @@ ghost use Prim.Native.Nat.{_*_, _≤_};
 ghost use lib.ListN.{length};
 ghost use lib.IntN.{pos};
 ghost use Rattle.model.specs.Boxes.{holds};
-ghost use Rattle.model.specs.Ground.{built};
+ghost use Rattle.model.specs.Ground.{ground, built};
 ghost use Rattle.model.specs.Refusal.{given, first, wide, hollow, sizeLines, faulty, cellLines, obstacleLines, moverLines, countLines, windowLines, endLines, buildingLines, queryLines};
 ghost use Rattle.query.specs.Stages.{FirstFault, hollowLines, groundLines, wayLines};
 use model::CollisionBounds;
@@ -232,7 +232,7 @@ fn validate_buildings(plan: Plan) -> Outcome
 
 // 1 to 7.
 fn validate_ground(width: u32, height: u32, cells: &[u8], words: &[i32]) -> Outcome
-    ensures { λ r. ⌜ given r ≡ first (groundLines (record { width = width; height = height; cells = now (cells .entry); words = now (words .entry) })) ⌝ }
+    ensures { λ r. ⌜ given r ≡ first (groundLines (ground width height (now (cells .entry)) (now (words .entry)))) ⌝ }
 {
     let told = validate_size(width, height, cells);
     let Outcome::Accepted = told else {
@@ -273,7 +273,7 @@ pub fn validate_query(
     words: &[i32],
     query: WallQuery,
 ) -> Outcome
-    ensures { λ r. ⌜ given r ≡ first (queryLines (record { width = width; height = height; cells = now (cells .entry); words = now (words .entry) }) query) ⌝ }
+    ensures { λ r. ⌜ given r ≡ first (queryLines (ground width height (now (cells .entry)) (now (words .entry))) query) ⌝ }
 {
     let told = validate_ground(width, height, cells, words);
     let Outcome::Accepted = told else {

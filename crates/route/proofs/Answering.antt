@@ -121,6 +121,22 @@ module _ (marks : List ℕ) (left top w h s e : ℕ) {start end : PixelPosition}
   pub answers-at : (before after : List ℕ) (r : Way) → Answers (Clear marks left top w h) (spot left top w s) (spot left top w e) before after r → Answers (Clear marks left top w h) start end before after r
   answers-at before after r a = subst₂ (λ (p q : PixelPosition). Answers (Clear marks left top w h) p q before after r) at-start at-end a
 
+-- the mark at the place of p says whether p is clear
+pub mark-says : (marks : List ℕ) (left top w h r m : ℕ) (p : PixelPosition) → Inside left top w h p → spot left top w r ≡ p → m ≡ getD marks r 0 → Says (eqb m 0) (Clear marks left top w h (p .x) (p .y))
+mark-says marks left top w h r m p inside e f = by (eqb m 0) refl
+  where
+    same : (p .y - top) * w + (p .x - left) ≡ r
+    same =
+        let ex : left + r % w ≡ p .x = ap (λ (q : PixelPosition). q .x) e in
+        let ey : top + r / w ≡ p .y = ap (λ (q : PixelPosition). q .y) e in
+        let dx : p .x - left ≡ r % w = omega arith in
+        let dy : p .y - top ≡ r / w = omega arith in
+        rw (dx, dy) (div-add-mod' r w)
+
+    by : (t : Bool) → eqb m 0 ≡ t → Says t (Clear marks left top w h (p .x) (p .y))
+    by true z = (inside .west, inside .north, (omega (arith, inside .west, inside .east), omega (arith, inside .north, inside .south), ap (λ (i : ℕ). getD marks i 0) same ∙ (sym f ∙ eqb-true m 0 z)))
+    by false z = λ c. eqb-false m 0 z (f ∙ (ap (λ (i : ℕ). getD marks i 0) (sym same) ∙ c .2 .2))
+
 -- ---- a part of an area
 module _ (n : ℕ) (area : List ℕ) where
   pub part-long : n ≤ length area → length (take n area) ≡ n

@@ -12,7 +12,7 @@ ghost use Rattle.marks.specs.Marks.{Unmarked};
 ghost use Rattle.search.specs.Places.{center, spot, Areas, Blank};
 ghost use Rattle.search.specs.Search.{Listed, Trail};
 ghost use Rattle.route.specs.Trails.{Tracked, Written, Told, Opens};
-ghost use Rattle.route.specs.Answer.{Clear, Window, Inside, Lent, Searched, Asked};
+ghost use Rattle.route.specs.Answer.{Says, Clear, Window, Inside, Lent, Searched, Asked};
 use model::PixelPosition;
 use search::wide;
 
@@ -215,6 +215,14 @@ fn local_index(position: PixelPosition, left: usize, top: usize, w: usize, h: us
     let x = wide(position.x) - left;
     let y = wide(position.y) - top;
     y * w + x
+}
+
+// Whether the center at p is free, by the window's marks.
+pub fn is_clear(marks: &[u8], w: usize, h: usize, left: usize, top: usize, p: PixelPosition) -> bool
+    requires { ⌜ Window left top w h × Inside left top w h p × (w * h ≤ length (now marks)) ⌝ }
+    ensures { λ r. ⌜ Says r (Clear (now (marks .entry)) left top w h (p .x) (p .y)) ⌝ }
+{
+    marks::mark(marks, local_index(p, left, top, w, h)) == 0
 }
 
 // The route from `start` to `end` in the window of w by h centers at (left, top), by the window's marks. Its words stand

@@ -2,7 +2,7 @@
 use native.Mathlib.Omega.{arith}
 use borrow.Author.Needs.{needs}
 use Rattle.stamps.proofs.Adding.{adds-then, adds-same}
-use Rattle.counts.specs.Counts.{ground}
+use Rattle.model.specs.Ground.{ground}
 use Rattle.counts.proofs.Blocking.{blocked-before}
 use Rattle.counts.proofs.stamp_ground.Statement.{statement}
 use Rattle.counts.proofs.stamp_ground.Tie as tie

@@ -4,7 +4,7 @@ use native.Mathlib.Omega.{arith}
 use native.Mathlib.Nat.{mul-comm}
 use borrow.Author.Needs.{needs}
 use Rattle.model.specs.Boxes.{widthOf, heightOf}
-use Rattle.counts.specs.Counts.{ground}
+use Rattle.model.specs.Ground.{ground}
 use Rattle.marks.proofs.Showing.{framed, shown}
 use Rattle.marks.proofs.mark_centers.Statement.{statement}
 use Rattle.marks.proofs.mark_centers.Tie as tie

@@ -6,10 +6,10 @@ use borrow.Author.Needs.{needs}
 use denote.Ref.{now}
 use lib.ListN.{length, getD, length-map}
 use Rattle.model.specs.declared.WallBuilding.{WallBuilding}
-use Rattle.model.specs.Ground.{built}
+use Rattle.model.specs.Ground.{ground, built}
 use Rattle.model.specs.Placement.{issuesOf}
 use Rattle.model.specs.Packed.{noBuilding}
-use Rattle.placement.specs.Assessed.{buildingAt, ground}
+use Rattle.placement.specs.Assessed.{buildingAt}
 use Rattle.placement.proofs.Plans.{built-at, fits-at}
 use Rattle.placement.proofs.Parts.{room-ground, room-obstacles, room-buildings, all-parts}
 use Rattle.placement.proofs.assess_building.Statement.{statement}

@@ -6,9 +6,8 @@ use borrow.Author.Needs.{needs}
 use denote.Ref.{now}
 use lib.ListN.{length, replicate, length-map}
 use Rattle.model.specs.declared.WallPlacement.{WallPlacement}
-use Rattle.model.specs.Ground.{Ground, obstacles, built}
+use Rattle.model.specs.Ground.{Ground, ground, obstacles, built}
 use Rattle.model.specs.Areas.{issueRoom}
-use Rattle.placement.specs.Assessed.{ground}
 use Rattle.placement.proofs.Puts.{put-length}
 use Rattle.placement.proofs.Plans.{built-length}
 use Rattle.placement.proofs.Assessed.{SoFar, at-first, room-here, after-turn, at-last}

@@ -2,7 +2,7 @@
 use mathlib.Core.Path.{sym, _∙_}
 use denote.Ref.{now}
 use borrow.Author.Needs.{needs}
-use Rattle.model.specs.Ground.{Ground}
+use Rattle.model.specs.Ground.{Ground, ground}
 use Rattle.model.proofs.Lines.{stage-passed, stage-refused}
 use Rattle.query.proofs.Runs.{query-runs, way-counted}
 use Rattle.query.proofs.validate_query.Statement.{statement}
@@ -19,7 +19,7 @@ enum-told-2 c = search needs
 
 -- the ground that a call is given
 abbrev ground-of : tie.Start → Ground
-ground-of c = record { width = c .args .width; height = c .args .height; cells = now (c .args .cells); words = now (c .args .words) }
+ground-of c = ground (c .args .width) (c .args .height) (now (c .args .cells)) (now (c .args .words))
 
 returns : tie.Need-returns
 returns c =
