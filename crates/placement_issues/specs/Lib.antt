@@ -1,0 +1,3 @@
+-- What the contracts of this crate's functions say, over the definitions of `model`.
+pub mod Issues
+pub mod Words
