@@ -12,7 +12,7 @@ use Rattle.model.specs.Refusal.{caps}
 use Rattle.model.specs.Areas.{begun}
 use Rattle.model.specs.Check.{padded}
 use Rattle.model.specs.Packed.{noBuilding}
-use Rattle.placement_issues.specs.Issues.{Put}
+use Rattle.issue_words.specs.Issues.{Put}
 use Rattle.placement_issues.specs.Words.{Fitting}
 
 -- What validation has shown of the ground and of the plan.

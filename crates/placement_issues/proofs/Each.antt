@@ -9,7 +9,7 @@ use lib.ListN.{length, getD, take, drop, length-append}
 use lib.Seq.{length-take-le, take-suc, take-all, split-at}
 use Rattle.model.specs.Lists.{placesFrom, keepIf}
 use Rattle.model.specs.Placement.{Issue, issueWord}
-use Rattle.placement_issues.specs.Issues.{noted}
+use Rattle.issue_words.specs.Issues.{noted}
 
 module _ {A B : Type 0} (f : ℕ → A → List B) where
   -- the parts of the elements, of which the first has number n

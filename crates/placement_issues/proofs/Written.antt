@@ -7,8 +7,8 @@ use native.Mathlib.Omega.{arith}
 use lib.ListN.{length, getD, take, length-map}
 use Rattle.model.specs.Lists.{places}
 use Rattle.model.specs.Placement.{Issue, issueWord}
-use Rattle.placement_issues.specs.Issues.{Put, noted}
-use Rattle.placement_issues.proofs.Puts.{nothing-put, put-length, then}
+use Rattle.issue_words.specs.Issues.{Put, noted}
+use Rattle.issue_words.proofs.Puts.{nothing-put, put-length, then}
 use Rattle.placement_issues.proofs.Each.{each, each-next, each-room, each-all, wordsAt, found-each}
 
 module _ {A : Type 0} (k : ℕ) (issue : ℕ → Issue) (test : ℕ → A → Bool) (l : List A) (was : List ℕ) (at : ℕ) where

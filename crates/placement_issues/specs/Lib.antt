@@ -1,3 +1,2 @@
--- What the contracts of this crate's functions say, over the definitions of `model`.
-pub mod Issues
+-- The root of the crate's definitions.
 pub mod Words

@@ -16,7 +16,7 @@ use Rattle.model.specs.Ground.{built}
 use Rattle.model.specs.Placement.{OutOfMap, UnbuildableTerrain, OverlapsObstacle, OverlapsBuilding, issueWord}
 use Rattle.model.specs.Refusal.{geometryOf, caps}
 use Rattle.footprints.specs.Cells.{badUnder, nonEmpty}
-use Rattle.placement_issues.specs.Issues.{noted}
+use Rattle.issue_words.specs.Issues.{noted}
 
 abbrev pub boxesOf : WallBuilding → BuildingGeometry
 boxesOf b = record { footprint = footprintBox b; collision = collisionBox b }

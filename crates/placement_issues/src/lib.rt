@@ -1,88 +1,22 @@
 // The issues of one building, as words behind those that a lent area holds: of the map's edge and the terrain, of the obstacles, of the other buildings.
 ghost use mathlib.Core.Path.{_≡_};
 ghost use mathlib.Core.Bool.{not, _&&_};
-ghost use mathlib.Core.List.{map};
 ghost use Prim.Native.Nat.{_+_, _*_, _≤_, _<_};
 ghost use lib.ListN.{length};
 ghost use Rattle.model.specs.declared.Geometry.the-variants.{Fits};
 ghost use Rattle.model.specs.Boxes.{inMap, footprintBox};
 ghost use Rattle.model.specs.Ground.{rects, built};
-ghost use Rattle.model.specs.Placement.{issueWord};
 ghost use Rattle.model.specs.Refusal.{geometryOf, caps};
 ghost use Rattle.model.specs.Check.{noRect};
 ghost use Rattle.footprints.specs.Cells.{badUnder, nonEmpty};
-ghost use Rattle.placement_issues.specs.Issues.{Put, issueOf, index, kind, noted};
+ghost use Rattle.issue_words.specs.Issues.{Put};
 ghost use Rattle.placement_issues.specs.Words.{Fitting, boxesOf, groundWords, obstacleWords, buildingWords};
+use issue_words::PlacementIssue;
 use model::BuildingGeometry;
 use model::Geometry;
 use model::PixelRect;
 use model::Plan;
 use model::WallBuilding;
-
-// An issue's word holds building (5 bits), kind (2), zero (12), index (13): one building is 2^27, one kind 2^25.
-const BUILDING: u32 = 134217728;
-
-const KIND: u32 = 33554432;
-
-// What can be wrong with a building's place, in document 01's order.
-enum PlacementIssue {
-    OutOfMap,
-    UnbuildableTerrain,
-    OverlapsObstacle { index: usize },
-    OverlapsBuilding { index: usize },
-}
-
-// The issue's kind, 0 to 3.
-fn kind_of(issue: PlacementIssue) -> u32
-    ensures { λ r. ⌜ r ≡ kind (issueOf issue) ⌝ }
-{
-    match issue {
-        PlacementIssue::OutOfMap => 0,
-        PlacementIssue::UnbuildableTerrain => 1,
-        PlacementIssue::OverlapsObstacle { index: _ } => 2,
-        PlacementIssue::OverlapsBuilding { index: _ } => 3,
-    }
-}
-
-// The number of what is overlapped, and 0 where the kind has none.
-fn index_of(issue: PlacementIssue) -> usize
-    ensures { λ r. ⌜ r ≡ index (issueOf issue) ⌝ }
-{
-    match issue {
-        PlacementIssue::OutOfMap => 0,
-        PlacementIssue::UnbuildableTerrain => 0,
-        PlacementIssue::OverlapsObstacle { index } => index,
-        PlacementIssue::OverlapsBuilding { index } => index,
-    }
-}
-
-// The issue of a building as a word.
-fn issue_word(building: usize, issue: PlacementIssue) -> u32
-    requires { ⌜ (building < caps .buildings) × (index (issueOf issue) < caps .obstacles) ⌝ }
-    ensures { λ r. ⌜ r ≡ issueWord building (issueOf issue) ⌝ }
-{
-    let kind = kind_of(issue);
-    let index = index_of(issue);
-    building as u32 * BUILDING + kind * KIND + index as u32
-}
-
-// Writes the issue's word behind the first `at` words if the issue was found, and answers how many words stand there then.
-fn put_if(
-    found: bool,
-    building: usize,
-    issue: PlacementIssue,
-    issues: &mut [u32],
-    at: usize,
-) -> usize
-    requires { ⌜ (building < caps .buildings) × ((index (issueOf issue) < caps .obstacles) × (at + length (noted found (issueOf issue)) ≤ length (now issues))) ⌝ }
-    ensures { λ r. ⌜ Put (now (issues .entry)) at (map (issueWord building) (noted found (issueOf issue))) (now (issues .exit)) r ⌝ }
-{
-    if found {
-        issues[at] = issue_word(building, issue);
-        return at + 1;
-    }
-    at
-}
 
 // All zero.
 pub fn no_rect() -> PixelRect
@@ -160,7 +94,7 @@ pub fn overlaps_obstacles(
     while i < count {
         let obstacle = boxes::obstacle_at(words, i);
         let found = boxes::intersects(footprint, obstacle);
-        next = put_if(
+        next = issue_words::put_if(
             found,
             building,
             PlacementIssue::OverlapsObstacle { index: i },
@@ -191,7 +125,7 @@ pub fn overlaps_buildings(
         let other = plan.buildings[i];
         let boxes = boxes_of(other);
         let found = (i != building) & boxes::intersects(footprint, boxes.footprint);
-        next = put_if(
+        next = issue_words::put_if(
             found,
             building,
             PlacementIssue::OverlapsBuilding { index: i },
@@ -219,9 +153,9 @@ pub fn ground_issues(
     ensures { λ r. ⌜ Put (now (issues .entry)) at (groundWords width height (now (cells .entry)) building b) (now (issues .exit)) r ⌝ }
 {
     let out = out_of_map(width, height, boxes);
-    let next = put_if(out, building, PlacementIssue::OutOfMap, issues, at);
+    let next = issue_words::put_if(out, building, PlacementIssue::OutOfMap, issues, at);
     let bad = on_bad_terrain(width, height, cells, b, boxes.footprint);
-    put_if(
+    issue_words::put_if(
         bad,
         building,
         PlacementIssue::UnbuildableTerrain,

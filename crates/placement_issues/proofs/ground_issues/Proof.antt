@@ -11,10 +11,10 @@ use Rattle.model.specs.declared.BuildingGeometry.{BuildingGeometry}
 use Rattle.model.specs.Boxes.{inMap, footprintBox, collisionBox}
 use Rattle.model.specs.Placement.{Issue, OutOfMap, UnbuildableTerrain, issueWord}
 use Rattle.footprints.specs.Cells.{badUnder, nonEmpty}
-use Rattle.placement_issues.proofs.Puts.{put-length, then, words-length}
+use Rattle.issue_words.proofs.Puts.{put-length, then, words-length}
 use Rattle.placement_issues.proofs.ground_issues.Statement.{statement}
 use Rattle.placement_issues.proofs.ground_issues.Tie as tie
-use Rattle.placement_issues.specs.Issues.{noted}
+use Rattle.issue_words.specs.Issues.{noted}
 
 -- the two issues, each where its test holds
 abbrev out : tie.Start → List Issue

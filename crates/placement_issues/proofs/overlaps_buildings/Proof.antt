@@ -13,7 +13,7 @@ use Rattle.model.specs.Placement.{OverlapsBuilding}
 use Rattle.model.specs.Packed.{noBuilding}
 use Rattle.placement_issues.specs.Words.{otherMetBy}
 use Rattle.placement_issues.proofs.Written.{Written, at-first, room-here, after-turn, at-last}
-use Rattle.placement_issues.proofs.Puts.{put-length}
+use Rattle.issue_words.proofs.Puts.{put-length}
 use Rattle.placement_issues.proofs.Plans.{built-length, built-at, fits-at}
 use Rattle.placement_issues.proofs.overlaps_buildings.Statement.{statement}
 use Rattle.placement_issues.proofs.overlaps_buildings.Tie as tie

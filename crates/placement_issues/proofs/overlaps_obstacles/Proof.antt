@@ -11,7 +11,7 @@ use Rattle.model.specs.Placement.{OverlapsObstacle}
 use Rattle.model.specs.Check.{noRect}
 use Rattle.model.proofs.Lists.{rects-length}
 use Rattle.placement_issues.specs.Words.{metBy}
-use Rattle.placement_issues.proofs.Puts.{put-length}
+use Rattle.issue_words.proofs.Puts.{put-length}
 use Rattle.placement_issues.proofs.Written.{Written, at-first, room-here, after-turn, at-last}
 use Rattle.placement_issues.proofs.overlaps_obstacles.Statement.{statement}
 use Rattle.placement_issues.proofs.overlaps_obstacles.Tie as tie

@@ -1,10 +1,10 @@
--- `placement_issues::put_if` meets its contract: it writes one word or none. Assumes nothing.
+-- `issue_words::put_if` meets its contract: it writes one word or none. Assumes nothing.
 use native.Mathlib.Omega.{arith}
 use borrow.Author.Needs.{needs}
 use denote.Ref.{now}
-use Rattle.placement_issues.proofs.Puts.{stored, nothing-put}
-use Rattle.placement_issues.proofs.put_if.Statement.{statement}
-use Rattle.placement_issues.proofs.put_if.Tie as tie
+use Rattle.issue_words.proofs.Puts.{stored, nothing-put}
+use Rattle.issue_words.proofs.put_if.Statement.{statement}
+use Rattle.issue_words.proofs.put_if.Tie as tie
 
 issue-word-requires : tie.Need-issue-word-requires
 issue-word-requires c κs = search needs

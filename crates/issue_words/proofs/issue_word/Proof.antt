@@ -1,10 +1,10 @@
--- `placement_issues::issue_word` meets its contract: the three parts of a word fit it. Assumes nothing.
+-- `issue_words::issue_word` meets its contract: the three parts of a word fit it. Assumes nothing.
 use native.Mathlib.Omega.{arith}
 use borrow.Author.Needs.{needs}
-use Rattle.placement_issues.specs.Issues.{issueOf}
-use Rattle.placement_issues.proofs.Puts.{kind-small, word-parts}
-use Rattle.placement_issues.proofs.issue_word.Statement.{statement}
-use Rattle.placement_issues.proofs.issue_word.Tie as tie
+use Rattle.issue_words.specs.Issues.{issueOf}
+use Rattle.issue_words.proofs.Puts.{kind-small, word-parts}
+use Rattle.issue_words.proofs.issue_word.Statement.{statement}
+use Rattle.issue_words.proofs.issue_word.Tie as tie
 
 kind-of-requires : tie.Need-kind-of-requires
 kind-of-requires c κs = search needs

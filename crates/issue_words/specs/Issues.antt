@@ -6,8 +6,8 @@ use Prim.Native.Nat.{ℕ, _+_, _≤_}
 use lib.ListN.{length, take, drop}
 use Rattle.model.specs.Placement.{Issue}
 use Rattle.model.specs.Placement as placement
-use Rattle.placement_issues.specs.declared.PlacementIssue.{PlacementIssue}
-use Rattle.placement_issues.specs.declared.PlacementIssue.the-variants.{OutOfMap, UnbuildableTerrain, OverlapsObstacle, OverlapsBuilding}
+use Rattle.issue_words.specs.declared.PlacementIssue.{PlacementIssue}
+use Rattle.issue_words.specs.declared.PlacementIssue.the-variants.{OutOfMap, UnbuildableTerrain, OverlapsObstacle, OverlapsBuilding}
 
 -- the issue of document 01 that a value of the program stands for
 abbrev pub issueOf : PlacementIssue → Issue

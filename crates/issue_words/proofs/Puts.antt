@@ -7,7 +7,7 @@ use native.Mathlib.Omega.{arith}
 use lib.ListN.{length, take, drop, set, length-append, length-drop, length-map, take-append-drop}
 use lib.Seq.{length-take-le, set-split, take-at, drop-append-add, drop-drop}
 use Rattle.model.specs.Placement.{Issue, OutOfMap, UnbuildableTerrain, OverlapsObstacle, OverlapsBuilding, issueWord}
-use Rattle.placement_issues.specs.Issues.{Put, kind, index}
+use Rattle.issue_words.specs.Issues.{Put, kind, index}
 
 -- two bits hold a kind
 pub kind-small : (i : Issue) → kind i < 4
