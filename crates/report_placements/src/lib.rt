@@ -10,8 +10,13 @@ pub fn put_placement(out: &mut [u8], at: usize, index: usize, placement: WallPla
     ensures { λ r. ⌜ Wrote (now (out .entry)) at (placementLine index placement) (now (out .exit)) r ⌝ }
 {
     let footprint = text::put_labelled(out, at, b"placement ", index as u64);
-    let collision = text::put_labelled_box(out, footprint, b" footprint", placement.footprint);
-    let issues = text::put_labelled_box(out, collision, b" collision", placement.collision);
+    let collision = text_boxes::put_labelled_box(
+        out,
+        footprint,
+        b" footprint",
+        placement.footprint,
+    );
+    let issues = text_boxes::put_labelled_box(out, collision, b" collision", placement.collision);
     text::put_ending(out, issues, b" issues ", placement.issues as u64)
 }
 

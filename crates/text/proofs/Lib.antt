@@ -2,4 +2,3 @@
 pub mod Chain
 pub mod Lines
 pub mod Spelt
-pub mod Signs

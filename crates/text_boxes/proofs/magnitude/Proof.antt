@@ -1,11 +1,11 @@
--- `text::magnitude` meets its contract: below 0 the bits turned over are one less than the magnitude. Assumes nothing.
+-- `text_boxes::magnitude` meets its contract: below 0 the bits turned over are one less than the magnitude. Assumes nothing.
 use mathlib.Core.Path.{ap, _∙_}
 use native.Mathlib.Omega.{arith}
 use lib.IntN.{natAbs}
 use mir.Facts.{toZ-ofZ}
-use Rattle.text.proofs.Signs.{turned, plain}
-use Rattle.text.proofs.magnitude.Statement.{statement}
-use Rattle.text.proofs.magnitude.Tie as tie
+use Rattle.text_boxes.proofs.Signs.{turned, plain}
+use Rattle.text_boxes.proofs.magnitude.Statement.{statement}
+use Rattle.text_boxes.proofs.magnitude.Tie as tie
 
 cast-result : tie.Need-cast-result
 cast-result c =

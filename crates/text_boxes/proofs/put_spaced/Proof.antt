@@ -1,4 +1,4 @@
--- `text::put_spaced` meets its contract, by the sign of the number. Assumes nothing.
+-- `text_boxes::put_spaced` meets its contract, by the sign of the number. Assumes nothing.
 use borrow.Author.Needs.{needs}
 use mathlib.Core.Path.{_≡_, sym, ap, _∙_}
 use mathlib.Core.List.{_++_}
@@ -8,10 +8,10 @@ use lib.IntN.{natAbs}
 use lib.ListN.{length}
 use mir.Facts.{toZ-ofZ}
 use Rattle.model.specs.Report.{bytes, decimal, spaced}
 use Rattle.text.proofs.Chain.{said}
-use Rattle.text.proofs.Signs.{text-below, text-above}
-use Rattle.text.proofs.put_spaced.Statement.{statement}
-use Rattle.text.proofs.put_spaced.Tie as tie
+use Rattle.text_boxes.proofs.Signs.{text-below, text-above}
+use Rattle.text_boxes.proofs.put_spaced.Statement.{statement}
+use Rattle.text_boxes.proofs.put_spaced.Tie as tie
 
 -- the magnitude that the call gives is the number's
 told : (c : tie.After-magnitude) → natAbs (c .before .before .args .n) ≡ c .magnitude .result

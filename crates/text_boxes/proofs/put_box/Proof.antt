@@ -1,4 +1,4 @@
--- `text::put_box` meets its contract. Assumes nothing.
+-- `text_boxes::put_box` meets its contract. Assumes nothing.
 use borrow.Author.Needs.{needs}
 use mathlib.Core.Path.{_≡_, ap}
 use mathlib.Core.List.{List}
@@ -11,9 +11,9 @@ use mir.Facts.{toZ-ofZ}
 use mir.Syntax.{w32}
 use mir.Val.{SFits, toZ, ofZ}
 use Rattle.model.specs.Report.{spaced}
 use Rattle.text.proofs.Chain.{then, said, four-lengths}
-use Rattle.text.proofs.put_box.Statement.{statement}
-use Rattle.text.proofs.put_box.Tie as tie
+use Rattle.text_boxes.proofs.put_box.Statement.{statement}
+use Rattle.text_boxes.proofs.put_box.Tie as tie
 
 -- what is put of a signed number that the machine holds
 abbrev read : ℤ → List ℕ

@@ -1,10 +1,10 @@
--- `text::put_labelled_box` meets its contract. Assumes nothing.
+-- `text_boxes::put_labelled_box` meets its contract. Assumes nothing.
 use borrow.Author.Needs.{needs}
 use native.Mathlib.Omega.{arith}
 use lib.ListN.{length-append}
 use Rattle.text.proofs.Chain.{then}
-use Rattle.text.proofs.put_labelled_box.Statement.{statement}
-use Rattle.text.proofs.put_labelled_box.Tie as tie
+use Rattle.text_boxes.proofs.put_labelled_box.Statement.{statement}
+use Rattle.text_boxes.proofs.put_labelled_box.Tie as tie
 
 put-requires : tie.Need-put-requires
 put-requires c κs = omega (arith, simp length-append at (c .before .before .before .pre))
