@@ -1,4 +1,4 @@
-//! Compares the proved library with the original. `compare run [QUERIES]`, `compare program PATH [TIMES]`, `compare store [ANSWERS]`.
+//! Compares the proved library with the original. `compare run [QUERIES]`, `compare program PATH [TIMES]`, `compare store`.
 mod bound;
 mod case;
 mod generate;
@@ -254,7 +254,7 @@ fn main() {
     let number = |k: usize, default: usize| args.get(k).map_or(default, |word| word.parse().expect("a number"));
     match args.first().map(String::as_str) {
         Some("run") => run(number(1, 200_000)),
-        Some("store") => print!("{}", store::sample(55, number(1, 300))),
+        Some("store") => print!("{}", store::sample(55, 30, 5)),
         Some("program") => {
             let (path, times) = (args.get(1).expect("the program's path"), number(2, 2000));
             if let Err(e) = program::compare(path, 89, times) {
@@ -264,7 +264,7 @@ fn main() {
             println!("{times} runs of the program compared: no difference");
         }
         _ => {
-            eprintln!("compare run [QUERIES] | program PATH [TIMES] | store [ANSWERS]");
+            eprintln!("compare run [QUERIES] | program PATH [TIMES] | store");
             exit(2);
         }
     }
