@@ -18,7 +18,7 @@ extern "C" {
         query_len: usize, buildings: usize, issues: *mut u32, issues_len: usize, base: *mut u32, base_len: usize, planned: *mut u32,
         planned_len: usize, marks: *mut u8, marks_len: usize, parents: *mut u32, parents_len: usize, queue: *mut u32, queue_len: usize,
         route: *mut u32, route_len: usize, answer: *mut u64, answer_len: usize,
-    ) -> u32;
+    ) -> u64;
 }
 
 // Processor time of this thread, which other work on the machine does not lengthen much.

@@ -87,7 +87,7 @@ enum walls_c_refusal {
 
 /* Checks a wall on a map of width by height cells. `obstacles` has four words each: left, top, right, bottom.
  * Refuses with 1 to 17. WALLS_C_CHECK_WORDS of answer; beside a refusal those behind the fifth are 0. */
-uint32_t walls_c_check(uint32_t width, uint32_t height,
+uint64_t walls_c_check(uint32_t width, uint32_t height,
                        const uint8_t *cells, size_t cells_len,
                        const int32_t *obstacles, size_t obstacles_len,
                        const uint64_t *query, size_t query_len, size_t buildings,
@@ -103,7 +103,7 @@ uint32_t walls_c_check(uint32_t width, uint32_t height,
 /* The same of a packed query, which is read into `cells` (width × height) and `obstacles` (4n) first.
  * Refuses with 18, 19 and 17 of the reading, which then leaves everything as it came, and with 3 to 17 of the check, which then leaves
  * the areas behind `obstacles` as they came. */
-uint32_t walls_c_check_packed(const uint8_t *packed, size_t packed_len,
+uint64_t walls_c_check_packed(const uint8_t *packed, size_t packed_len,
                               uint8_t *cells, size_t cells_len,
                               int32_t *obstacles, size_t obstacles_len,
                               uint32_t *issues, size_t issues_len,
@@ -117,7 +117,7 @@ uint32_t walls_c_check_packed(const uint8_t *packed, size_t packed_len,
 
 /* Whether a list of route point words passes from start to end after the plan. Refuses with 1 to 17, of the areas only those named
  * here. WALLS_C_TEST_WORDS of answer; beside a refusal the sixth is 0. */
-uint32_t walls_c_test_route(uint32_t width, uint32_t height,
+uint64_t walls_c_test_route(uint32_t width, uint32_t height,
                             const uint8_t *cells, size_t cells_len,
                             const int32_t *obstacles, size_t obstacles_len,
                             const uint64_t *query, size_t query_len, size_t buildings,
@@ -129,7 +129,7 @@ uint32_t walls_c_test_route(uint32_t width, uint32_t height,
 
 /* Reads a packed query: the cells to `cells` (width × height of them), the obstacles' words to `obstacles` (four each), the rest to the
  * answer. Refuses with 18, 19 and 17. WALLS_C_READ_WORDS of answer; beside a refusal those behind the fifth are 0. */
-uint32_t walls_c_read_packed(const uint8_t *packed, size_t packed_len,
+uint64_t walls_c_read_packed(const uint8_t *packed, size_t packed_len,
                              uint8_t *cells, size_t cells_len,
                              int32_t *obstacles, size_t obstacles_len,
                              uint64_t *answer, size_t answer_len);

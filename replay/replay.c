@@ -77,7 +77,7 @@ static int next_is(char **at, uint64_t word) {
 }
 
 /* Whether the answer and the areas hold what is stored, and nothing is left of that. */
-static int as_stored(uint32_t told) {
+static int as_stored(uint64_t told) {
     char *at = wanted;
     size_t issues = 0, buildings = told ? 0 : read_words[WALLS_C_BUILDINGS];
     size_t words = told ? 5 : WALLS_C_PLACEMENTS + 9 * buildings;
@@ -93,7 +93,7 @@ static int replayed(void) {
     size_t n = bytes_of(hex);
     if (walls_c_read_packed(packed, n, cells, MOST_CELLS, obstacles, 4 * MOST_OBSTACLES, read_words, WALLS_C_READ_WORDS) != 0) return 0;
     lend_all();
-    uint32_t told = walls_c_check_packed(packed, n, cells, MOST_CELLS, obstacles, 4 * MOST_OBSTACLES, area.issues, area.issue, area.base,
+    uint64_t told = walls_c_check_packed(packed, n, cells, MOST_CELLS, obstacles, 4 * MOST_OBSTACLES, area.issues, area.issue, area.base,
                                          area.difference, area.planned, area.difference, area.marks, 2 * area.center, area.parents,
                                          area.center, area.queue, area.center, area.route, area.center, answer, WALLS_C_CHECK_WORDS);
     int same = as_stored(told);

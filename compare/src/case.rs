@@ -25,9 +25,10 @@ impl Case {
         (axis(w.left, w.right), axis(w.top, w.bottom))
     }
 
-    /// How much each of the areas 2 to 8 needs.
+    /// How much each of the areas 2 to 8 needs, for a window of any size that is accepted.
     pub fn rooms(&self) -> [usize; 7] {
         let (w, h) = self.window_size();
+        let (w, h) = (w.min(1024), h.min(1024));
         let (n, b) = (self.words.len() / 4, self.query.buildings.len());
         [b * (n + b + 1), (w + 1) * (h + 1), (w + 1) * (h + 1), 2 * w * h, w * h, w * h, w * h]
     }

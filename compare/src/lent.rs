@@ -10,22 +10,22 @@ extern "C" {
         query_len: usize, buildings: usize, issues: *mut u32, issues_len: usize, base: *mut u32, base_len: usize, planned: *mut u32,
         planned_len: usize, marks: *mut u8, marks_len: usize, parents: *mut u32, parents_len: usize, queue: *mut u32, queue_len: usize,
         route: *mut u32, route_len: usize, answer: *mut u64, answer_len: usize,
-    ) -> u32;
+    ) -> u64;
     fn walls_c_check_packed(
         packed: *const u8, packed_len: usize, cells: *mut u8, cells_len: usize, obstacles: *mut i32, obstacles_len: usize, issues: *mut u32,
         issues_len: usize, base: *mut u32, base_len: usize, planned: *mut u32, planned_len: usize, marks: *mut u8, marks_len: usize,
         parents: *mut u32, parents_len: usize, queue: *mut u32, queue_len: usize, route: *mut u32, route_len: usize, answer: *mut u64,
         answer_len: usize,
-    ) -> u32;
+    ) -> u64;
     fn walls_c_test_route(
         width: u32, height: u32, cells: *const u8, cells_len: usize, obstacles: *const i32, obstacles_len: usize, query: *const u64,
         query_len: usize, buildings: usize, list: *const u32, list_len: usize, base: *mut u32, base_len: usize, planned: *mut u32,
         planned_len: usize, marks: *mut u8, marks_len: usize, answer: *mut u64, answer_len: usize,
-    ) -> u32;
+    ) -> u64;
     fn walls_c_read_packed(
         packed: *const u8, packed_len: usize, cells: *mut u8, cells_len: usize, obstacles: *mut i32, obstacles_len: usize, answer: *mut u64,
         answer_len: usize,
-    ) -> u32;
+    ) -> u64;
 }
 
 const GUARD: usize = 8;
@@ -122,8 +122,8 @@ fn in_room<'a, T>(asked: &'a Result<T, Refusal>, first: usize, lengths: &[usize]
     }
 }
 
-fn said(got: u32, answer: &Area<u64>, words: &[u64]) -> Result<(), String> {
-    expect(u64::from(got) == words[0], || format!("answered {got}, and the words are {:?}", &words[..12.min(words.len())]))?;
+fn said(got: u64, answer: &Area<u64>, words: &[u64]) -> Result<(), String> {
+    expect(got == words[0], || format!("answered {got}, and the words are {:?}", &words[..12.min(words.len())]))?;
     let n = words.len().min(answer.len());
     let found: Vec<u64> = answer.all[GUARD..GUARD + n].to_vec();
     answer.holds("answer", &words[..n]).map_err(|e| format!("{e}: {found:?} for {:?}", &words[..n]))

@@ -53,7 +53,7 @@ pub enum WallError {
 impl WallError {
     // The case of a refusal's number and its values, as include/walls_c.h lists them. 5 and 17 can't come: obstacles are given whole, and
     // the areas are lent by this crate.
-    pub(crate) fn of(number: u32, v: [u64; 4]) -> WallError {
+    pub(crate) fn of(number: u64, v: [u64; 4]) -> WallError {
         let size = |k: usize| v[k] as usize;
         let word = |k: usize| v[k] as u32;
         match number {

@@ -307,7 +307,7 @@ fn grow<T: Copy + Default>(area: &mut Vec<T>, n: usize) {
     }
 }
 
-fn accepted(number: u32, answer: &[u64]) -> Result<(), WallError> {
+fn accepted(number: u64, answer: &[u64]) -> Result<(), WallError> {
     match number {
         0 => Ok(()),
         _ => Err(WallError::of(number, [answer[1], answer[2], answer[3], answer[4]])),
