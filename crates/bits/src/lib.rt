@@ -77,7 +77,7 @@ fn five(s: &[u8], i: usize) -> u64
 }
 
 // The signed number of the same 32 bits.
-fn to_signed(w: u32) -> i32
+pub fn to_signed(w: u32) -> i32
     ensures { λ r. ⌜ r ≡ signed w ⌝ }
 {
     if w < 2147483648 {

@@ -1,0 +1,435 @@
+// A query from words, and answers as words, for hosts in other languages.
+ghost use mathlib.Core.Path.{_≡_};
+ghost use mathlib.Core.List.{[], _∷_, flatMap};
+ghost use mathlib.Core.Option.{some};
+ghost use Prim.Native.Nat.{_+_, _*_, _≤_, _<_};
+ghost use lib.ListN.{set, take};
+ghost use Rattle.model.specs.Lists.{table};
+ghost use Rattle.model.specs.Passage.{rank};
+ghost use Rattle.model.specs.Refusal.{given, endNumber, refusal};
+ghost use Rattle.words.specs.Words.{wordAt, pointAt, extentsAt, rectAt, buildingAt, queryOf, bits, flag, number, refusalWords, rectWords, passedWords, placementWords, checkWords, testWords, endWords, buildingWords, queryWords, readWords, written};
+use model::CollisionBounds;
+use model::DepotFootprint;
+use model::Outcome;
+use model::PackedReply;
+use model::Passed;
+use model::PixelPosition;
+use model::PixelRect;
+use model::Plan;
+use model::TestReply;
+use model::TilePosition;
+use model::WallBuilding;
+use model::WallEndpoint;
+use model::WallError;
+use model::WallPassage;
+use model::WallPlacement;
+use model::WallQuery;
+use model::WallReply;
+
+// The low 32 bits of word k, and 0 past the end.
+fn word_at(words: &[u64], k: usize) -> u32
+    ensures { λ r. ⌜ r ≡ wordAt (now (words .entry)) k ⌝ }
+{
+    if k < words.len() {
+        (words[k] % 4294967296) as u32
+    } else {
+        0
+    }
+}
+
+fn point_at(words: &[u64], k: usize) -> PixelPosition
+    requires { ⌜ k < 1000 ⌝ }
+    ensures { λ r. ⌜ r ≡ pointAt (now (words .entry)) k ⌝ }
+{
+    PixelPosition {
+        x: word_at(words, k),
+        y: word_at(words, k + 1),
+    }
+}
+
+fn extents_at(words: &[u64], k: usize) -> CollisionBounds
+    requires { ⌜ k < 900 ⌝ }
+    ensures { λ r. ⌜ r ≡ extentsAt (now (words .entry)) k ⌝ }
+{
+    let near = point_at(words, k);
+    let far = point_at(words, k + 2);
+    CollisionBounds {
+        left: near.x,
+        top: near.y,
+        right: far.x,
+        bottom: far.y,
+    }
+}
+
+fn rect_at(words: &[u64], k: usize) -> PixelRect
+    requires { ⌜ k < 900 ⌝ }
+    ensures { λ r. ⌜ r ≡ rectAt (now (words .entry)) k ⌝ }
+{
+    let e = extents_at(words, k);
+    PixelRect {
+        left: bits::to_signed(e.left),
+        top: bits::to_signed(e.top),
+        right: bits::to_signed(e.right),
+        bottom: bits::to_signed(e.bottom),
+    }
+}
+
+fn building_at(words: &[u64], k: usize) -> WallBuilding
+    requires { ⌜ k < 800 ⌝ }
+    ensures { λ r. ⌜ r ≡ buildingAt (now (words .entry)) k ⌝ }
+{
+    let at = point_at(words, k);
+    let size = point_at(words, k + 2);
+    let collision = extents_at(words, k + 4);
+    WallBuilding {
+        tile: TilePosition { x: at.x, y: at.y },
+        footprint: DepotFootprint {
+            width_tiles: size.x,
+            height_tiles: size.y,
+        },
+        collision,
+    }
+}
+
+// All 32 places of a plan, whatever its count.
+fn plan_at(words: &[u64], count: usize) -> Plan
+    ensures { λ r. ⌜ r ≡ record { buildings = table (λ i. buildingAt (now (words .entry)) (12 + 8 * i)) 32; count = count } ⌝ }
+{
+    let first = building_at(words, 12);
+    let mut buildings = [first; 32];
+    let mut i = 0;
+    while i < 32 {
+        let building = building_at(words, 12 + 8 * i);
+        buildings[i] = building;
+        i += 1;
+    }
+    Plan { buildings, count }
+}
+
+// The query that the words say, with this many buildings.
+pub fn query_of(words: &[u64], count: usize) -> WallQuery
+    ensures { λ r. ⌜ r ≡ queryOf (now (words .entry)) count ⌝ }
+{
+    let window = rect_at(words, 0);
+    let start = point_at(words, 4);
+    let end = point_at(words, 6);
+    let mover = extents_at(words, 8);
+    let plan = plan_at(words, count);
+    WallQuery {
+        window,
+        start,
+        end,
+        mover,
+        plan,
+    }
+}
+
+// The 32 bits of a signed number.
+fn side(x: i32) -> u64
+    ensures { λ r. ⌜ r ≡ bits x ⌝ }
+{
+    let raised = numbers::biased(x);
+    if raised < 2147483648 {
+        raised + 2147483648
+    } else {
+        raised - 2147483648
+    }
+}
+
+fn flag_word(b: bool) -> u64
+    ensures { λ r. ⌜ r ≡ flag b ⌝ }
+{
+    if b { 1 } else { 0 }
+}
+
+fn end_word(end: WallEndpoint) -> u64
+    ensures { λ r. ⌜ r ≡ endNumber end ⌝ }
+{
+    match end {
+        WallEndpoint::Start => 0,
+        WallEndpoint::End => 1,
+    }
+}
+
+fn passage_word(passage: WallPassage) -> u64
+    ensures { λ r. ⌜ r ≡ rank passage ⌝ }
+{
+    match passage {
+        WallPassage::StartBlocked => 0,
+        WallPassage::EndBlocked => 1,
+        WallPassage::Open => 2,
+        WallPassage::AlreadyDisconnected => 3,
+        WallPassage::BlockedWithinWindow => 4,
+    }
+}
+
+// Five words, and four zeros behind them.
+fn nine(number: u64, a: u64, b: u64, c: u64, d: u64) -> [u64; 9]
+    ensures { λ r. ⌜ r ≡ number ∷ a ∷ b ∷ c ∷ d ∷ 0 ∷ 0 ∷ 0 ∷ 0 ∷ [] ⌝ }
+{
+    [number, a, b, c, d, 0, 0, 0, 0]
+}
+
+// A refusal's number and values first.
+fn refusal_words(e: WallError) -> [u64; 9]
+    ensures { λ r. ⌜ take 5 r ≡ refusalWords (some (refusal e)) ⌝ }
+{
+    match e {
+        WallError::InvalidGridDimensions { width, height } => {
+            nine(1, width as u64, height as u64, 0, 0)
+        }
+        WallError::CellLength {
+            width,
+            height,
+            expected,
+            actual,
+        } => nine(
+            2,
+            width as u64,
+            height as u64,
+            expected as u64,
+            actual as u64,
+        ),
+        WallError::BadCell { index } => nine(3, index as u64, 0, 0, 0),
+        WallError::InvalidElevation { index, elevation } => {
+            nine(4, index as u64, elevation as u64, 0, 0)
+        }
+        WallError::ObstacleWords { length } => nine(5, length as u64, 0, 0, 0),
+        WallError::TooManyObstacles { actual } => nine(6, actual as u64, 0, 0, 0),
+        WallError::InvalidObstacle { index } => nine(7, index as u64, 0, 0, 0),
+        WallError::MoverExtentTooLarge => nine(8, 0, 0, 0, 0),
+        WallError::TooManyBuildings { actual } => nine(9, actual as u64, 0, 0, 0),
+        WallError::InvalidWindow => nine(10, 0, 0, 0, 0),
+        WallError::WindowTooLarge { width, height } => {
+            nine(11, width as u64, height as u64, 0, 0)
+        }
+        WallError::TooManyCenters { centers } => nine(12, centers as u64, 0, 0, 0),
+        WallError::EndpointOutsideWindow { endpoint, x, y } => {
+            nine(13, end_word(endpoint), x as u64, y as u64, 0)
+        }
+        WallError::InvalidFootprint {
+            index,
+            width_tiles,
+            height_tiles,
+        } => nine(14, index as u64, width_tiles as u64, height_tiles as u64, 0),
+        WallError::CollisionExtentTooLarge { index } => nine(15, index as u64, 0, 0, 0),
+        WallError::CoordinateOverflow { index } => nine(16, index as u64, 0, 0, 0),
+        WallError::RoomTooSmall { area } => nine(17, area as u64, 0, 0, 0),
+        WallError::PackedShort => nine(18, 0, 0, 0, 0),
+        WallError::PackedTail => nine(19, 0, 0, 0, 0),
+        WallError::ProgramLimit => nine(20, 0, 0, 0, 0),
+    }
+}
+
+fn outcome_words(outcome: Outcome) -> [u64; 9]
+    ensures { λ r. ⌜ take 5 r ≡ refusalWords (given outcome) ⌝ }
+{
+    match outcome {
+        Outcome::Accepted => nine(0, 0, 0, 0, 0),
+        Outcome::Refused(e) => refusal_words(e),
+    }
+}
+
+// The sides of a rectangle.
+fn rect_words(r: PixelRect) -> [u64; 4]
+    ensures { λ ws. ⌜ ws ≡ rectWords r ⌝ }
+{
+    let left = side(r.left);
+    let top = side(r.top);
+    let right = side(r.right);
+    let bottom = side(r.bottom);
+    [left, top, right, bottom]
+}
+
+// Verdict, baseline, number of points and window first.
+fn passed_words(passed: Passed, window: PixelRect) -> [u64; 9]
+    ensures { λ r. ⌜ take 7 r ≡ passedWords passed window ⌝ }
+{
+    let passage = passed.passage;
+    let verdict = passage_word(passage);
+    let baseline = flag_word(passed.baseline_passable);
+    let w = rect_words(window);
+    [
+        verdict,
+        baseline,
+        passed.points as u64,
+        w[0],
+        w[1],
+        w[2],
+        w[3],
+        0,
+        0,
+    ]
+}
+
+// Both boxes and the number of issues.
+fn placement_words(p: WallPlacement) -> [u64; 9]
+    ensures { λ r. ⌜ r ≡ placementWords p ⌝ }
+{
+    let f = rect_words(p.footprint);
+    let c = rect_words(p.collision);
+    [
+        f[0],
+        f[1],
+        f[2],
+        f[3],
+        c[0],
+        c[1],
+        c[2],
+        c[3],
+        p.issues as u64,
+    ]
+}
+
+// v in place k, where there is one.
+fn put(out: &mut [u64], k: usize, v: u64)
+    ensures { λ _. ⌜ now (out .exit) ≡ set (now (out .entry)) k v ⌝ }
+{
+    if k < out.len() {
+        out[k] = v;
+    }
+}
+
+// The first n words in places from `at` on, as many as there are places for.
+fn put_words(out: &mut [u64], at: usize, words: [u64; 9], n: usize)
+    requires { ⌜ (n ≤ 9) × (at < 1000) ⌝ }
+    ensures { λ _. ⌜ now (out .exit) ≡ written at (take n words) (now (out .entry)) ⌝ }
+{
+    let mut i = 0;
+    while i < n {
+        put(out, at + i, words[i]);
+        i += 1;
+    }
+}
+
+// The number and the values of the refusal, first. It answers the number.
+fn put_outcome(out: &mut [u64], outcome: Outcome) -> u64
+    ensures { λ r. ⌜ (now (out .exit) ≡ written 0 (refusalWords (given outcome)) (now (out .entry))) × (r ≡ number (given outcome)) ⌝ }
+{
+    let words = outcome_words(outcome);
+    let told = words[0];
+    put_words(out, 0, words, 5);
+    told
+}
+
+// Nine words for each of the 32 places.
+fn put_placements(out: &mut [u64], at: usize, placements: [WallPlacement; 32])
+    requires { ⌜ at < 100 ⌝ }
+    ensures { λ _. ⌜ now (out .exit) ≡ written at (flatMap placementWords placements) (now (out .entry)) ⌝ }
+{
+    let mut i = 0;
+    while i < 32 {
+        let placement = placements[i];
+        put_words(out, at + 9 * i, placement_words(placement), 9);
+        i += 1;
+    }
+}
+
+// What a check answers, and the number of its refusal.
+pub fn put_check(out: &mut [u64], reply: WallReply) -> u64
+    ensures { λ r. ⌜ (now (out .exit) ≡ written 0 (checkWords reply) (now (out .entry))) × (r ≡ number (given (reply .outcome))) ⌝ }
+{
+    let check = reply.check;
+    let passed = check.passed;
+    let window = check.window;
+    let placements = check.placements;
+    let outcome = reply.outcome;
+    let told = put_outcome(out, outcome);
+    put_words(out, 5, passed_words(passed, window), 7);
+    put_placements(out, 12, placements);
+    told
+}
+
+// What a route test answers, and the number of its refusal.
+pub fn put_test(out: &mut [u64], reply: TestReply) -> u64
+    ensures { λ r. ⌜ (now (out .exit) ≡ written 0 (testWords reply) (now (out .entry))) × (r ≡ number (given (reply .outcome))) ⌝ }
+{
+    let outcome = reply.outcome;
+    let told = put_outcome(out, outcome);
+    put(out, 5, flag_word(reply.passes));
+    told
+}
+
+// Start, end and mover first.
+fn end_words(s: PixelPosition, e: PixelPosition, m: CollisionBounds) -> [u64; 9]
+    ensures { λ ws. ⌜ take 8 ws ≡ endWords s e m ⌝ }
+{
+    [
+        s.x as u64,
+        s.y as u64,
+        e.x as u64,
+        e.y as u64,
+        m.left as u64,
+        m.top as u64,
+        m.right as u64,
+        m.bottom as u64,
+        0,
+    ]
+}
+
+// A building's words first.
+fn building_words(b: WallBuilding) -> [u64; 9]
+    ensures { λ ws. ⌜ take 8 ws ≡ buildingWords b ⌝ }
+{
+    let t = b.tile;
+    let f = b.footprint;
+    let c = b.collision;
+    [
+        t.x as u64,
+        t.y as u64,
+        f.width_tiles as u64,
+        f.height_tiles as u64,
+        c.left as u64,
+        c.top as u64,
+        c.right as u64,
+        c.bottom as u64,
+        0,
+    ]
+}
+
+// Eight words for each of the 32 places.
+fn put_plan(out: &mut [u64], at: usize, buildings: [WallBuilding; 32])
+    requires { ⌜ at < 100 ⌝ }
+    ensures { λ _. ⌜ now (out .exit) ≡ written at (flatMap buildingWords buildings) (now (out .entry)) ⌝ }
+{
+    let mut i = 0;
+    while i < 32 {
+        let building = buildings[i];
+        put_words(out, at + 8 * i, building_words(building), 8);
+        i += 1;
+    }
+}
+
+// The words that a query is made from, but for the number of buildings.
+fn put_query(out: &mut [u64], query: WallQuery)
+    ensures { λ _. ⌜ now (out .exit) ≡ written 9 (queryWords query) (now (out .entry)) ⌝ }
+{
+    let window = query.window;
+    let plan = query.plan;
+    let buildings = plan.buildings;
+    let w = rect_words(window);
+    put_words(out, 9, nine(w[0], w[1], w[2], w[3], 0), 4);
+    put_words(out, 13, end_words(query.start, query.end, query.mover), 8);
+    put_plan(out, 21, buildings);
+}
+
+// What reading a packed query answers, and the number of its refusal.
+pub fn put_read(out: &mut [u64], reply: PackedReply) -> u64
+    ensures { λ r. ⌜ (now (out .exit) ≡ written 0 (readWords reply) (now (out .entry))) × (r ≡ number (given (reply .outcome))) ⌝ }
+{
+    let packed = reply.packed;
+    let query = packed.query;
+    let plan = query.plan;
+    let sizes = nine(
+        packed.width as u64,
+        packed.height as u64,
+        packed.obstacles as u64,
+        plan.count as u64,
+        0,
+    );
+    let outcome = reply.outcome;
+    let told = put_outcome(out, outcome);
+    put_words(out, 5, sizes, 4);
+    put_query(out, query);
+    told
+}
