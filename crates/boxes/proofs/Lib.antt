@@ -1,2 +1,2 @@
--- Laws of a building's sides.
+-- Laws of a building's sides on both axes.
 pub mod Sides

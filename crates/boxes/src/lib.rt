@@ -1,28 +1,17 @@
 // Rectangle tests, and a building's two boxes.
 ghost use mathlib.Core.Path.{_≡_};
-ghost use Prim.Native.Nat.{_+_, _*_, _≤_, _<_};
-ghost use lib.IntN.{pos, natAbs, _-ℤ_};
+ghost use Prim.Native.Nat.{_+_, _*_, _≤_};
+ghost use lib.IntN.{natAbs, _-ℤ_};
 ghost use lib.ListN.{length, getD};
 ghost use Rattle.model.specs.Boxes.{meets, inMap, widthOf, heightOf};
 ghost use Rattle.model.specs.Check.{noRect};
 ghost use Rattle.model.specs.Ground.{rects};
 ghost use Rattle.model.specs.Refusal.{geometryOf};
-ghost use Rattle.boxes.specs.Axes.{axisOf};
+use axes::Axis;
 use model::BuildingGeometry;
 use model::Geometry;
 use model::PixelRect;
 use model::WallBuilding;
-
-// The sides of a building's footprint (left, right) and collision box (low, high) on one axis, or that one of them is outside i32.
-enum Axis {
-    Sides {
-        left: i32,
-        right: i32,
-        low: i32,
-        high: i32,
-    },
-    Overflow,
-}
 
 // Whether the two share a point. Touching sides share none.
 pub fn intersects(a: PixelRect, b: PixelRect) -> bool
@@ -81,44 +70,11 @@ pub fn obstacle_at(words: &[i32], i: usize) -> PixelRect
     }
 }
 
-// center - back, which i32 holds.
-fn lowered(center: u64, back: u64) -> i32
-    requires { ⌜ (center < 2147483648) × (back ≤ center + 2147483648) ⌝ }
-    ensures { λ r. ⌜ r ≡ pos center -ℤ pos back ⌝ }
-{
-    (center as i64 - back as i64) as i32
-}
-
-// A building's sides on one axis, from its tile, its size in tiles and its extents.
-fn building_axis(tile: u32, size: u32, back: u32, ahead: u32) -> Axis
-    ensures { λ r. ⌜ r ≡ axisOf tile size back ahead ⌝ }
-{
-    let left = 32 * tile as u64;
-    let right = left + 32 * size as u64;
-    let center = left + 16 * size as u64;
-    let high = center + ahead as u64 + 1;
-    if right > 2147483647 {
-        return Axis::Overflow;
-    }
-    if high > 2147483647 {
-        return Axis::Overflow;
-    }
-    if back as u64 > center + 2147483648 {
-        return Axis::Overflow;
-    }
-    Axis::Sides {
-        left: numbers::signed(left),
-        right: numbers::signed(right),
-        low: lowered(center, back as u64),
-        high: numbers::signed(high),
-    }
-}
-
 // Both boxes of a building, whatever its numbers are.
 pub fn building_geometry(b: WallBuilding) -> Geometry
     ensures { λ r. ⌜ r ≡ geometryOf b ⌝ }
 {
-    let x = building_axis(
+    let x = axes::building_axis(
         b.tile.x,
         b.footprint.width_tiles,
         b.collision.left,
@@ -133,7 +89,7 @@ pub fn building_geometry(b: WallBuilding) -> Geometry
     else {
         return Geometry::Overflow;
     };
-    let y = building_axis(
+    let y = axes::building_axis(
         b.tile.y,
         b.footprint.height_tiles,
         b.collision.top,

@@ -7,13 +7,34 @@ use mir.Facts.{toZ-ofZ, toZ-pos}
 use mir.Syntax.{w32, w64}
 use mir.Val.{SFits, toZ}
 use borrow.Author.Needs.{needs}
-use Rattle.numbers.proofs.Integers.{reads, widened}
+use Rattle.numbers.proofs.Integers.{widens, widened}
 use Rattle.model.specs.Boxes.{inMap}
 use Rattle.boxes.proofs.rect_in_map.Statement.{statement}
 use Rattle.boxes.proofs.rect_in_map.Tie as tie
 
+-- i32 holds the sides
+module _ (c : tie.Start) where
+  left : SFits w32 (c .args .rect .left)
+  left = search needs
+
+  top : SFits w32 (c .args .rect .top)
+  top = search needs
+
+  right : SFits w32 (c .args .rect .right)
+  right = search needs
+
+  bottom : SFits w32 (c .args .rect .bottom)
+  bottom = search needs
+
+  -- and an i64 reads the map's size as it is
+  wide : toZ w64 (8 * c .args .width) ≡ pos (8 * c .args .width)
+  wide = toZ-pos w64 (omega arith)
+
+  high : toZ w64 (8 * c .args .height) ≡ pos (8 * c .args .height)
+  high = toZ-pos w64 (omega arith)
+
 cast-result : tie.Need-cast-result
-cast-result c = search reads
+cast-result c = widens (right (c .before .before .before .before .before .before))
 
 mul-result : tie.Need-mul-result
 mul-result c = search needs
@@ -22,7 +43,7 @@ cast-result-2 : tie.Need-cast-result-2
 cast-result-2 c = search needs
 
 cast-result-3 : tie.Need-cast-result-3
-cast-result-3 c = search reads
+cast-result-3 c = widens (bottom (c .before .before .before .before .before .before .before .before))
 
 mul-result-2 : tie.Need-mul-result-2
 mul-result-2 c = search needs
@@ -33,14 +54,8 @@ cast-result-4 c = search needs
 returns : tie.Need-returns
 unfolding inMap
 returns c =
-    let a = c .before .before .before .before .before .before .before .before .args in
-    let w : toZ w64 (8 * a .width) ≡ pos (8 * a .width) = toZ-pos w64 (omega arith) in
-    let h : toZ w64 (8 * a .height) ≡ pos (8 * a .height) = toZ-pos w64 (omega arith) in
-    let left : SFits w32 (a .rect .left) = search needs in
-    let top : SFits w32 (a .rect .top) = search needs in
-    let right : SFits w32 (a .rect .right) = search needs in
-    let bottom : SFits w32 (a .rect .bottom) = search needs in
-    rw (toZ-ofZ left, toZ-ofZ top, widened right, widened bottom, w, h)
+    let s = c .before .before .before .before .before .before .before .before in
+    rw (toZ-ofZ (left s), toZ-ofZ (top s), widened (right s), widened (bottom s), wide s, high s)
 
 pub rect-in-map-spec : {M : Type 1} → statement M
 rect-in-map-spec =

@@ -1,11 +1,11 @@
--- `boxes::building_axis` meets its contract. Assumes nothing.
+-- `axes::building_axis` meets its contract. Assumes nothing.
 use mathlib.Core.Path.{sym}
 use native.Mathlib.Omega.{arith}
 use borrow.Author.Needs.{needs}
 use Rattle.numbers.proofs.Integers.{reads}
-use Rattle.boxes.proofs.Sides.{axis-right, axis-high, axis-low, axis-fits}
-use Rattle.boxes.proofs.building_axis.Statement.{statement}
-use Rattle.boxes.proofs.building_axis.Tie as tie
+use Rattle.axes.proofs.Sides.{axis-right, axis-high, axis-low, axis-fits}
+use Rattle.axes.proofs.building_axis.Statement.{statement}
+use Rattle.axes.proofs.building_axis.Tie as tie
 
 mul-left : tie.Need-mul-left
 mul-left c = search needs

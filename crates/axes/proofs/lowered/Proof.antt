@@ -1,4 +1,4 @@
--- `boxes::lowered` meets its contract. The difference of the two fits an i32, and each of them an i64.
+-- `axes::lowered` meets its contract. The difference of the two fits an i32, and each of them an i64.
 -- Assumes nothing.
 use mathlib.Core.Path.{_≡_}
 use native.Mathlib.Omega.{arith}
@@ -8,8 +8,8 @@ use mir.Syntax.{w32, w64}
 use mir.Val.{SFits, toZ}
 use borrow.Author.Needs.{needs}
 use Rattle.numbers.proofs.Integers.{ints, sub-nat, apart, fits-wide}
-use Rattle.boxes.proofs.lowered.Statement.{statement}
-use Rattle.boxes.proofs.lowered.Tie as tie
+use Rattle.axes.proofs.lowered.Statement.{statement}
+use Rattle.axes.proofs.lowered.Tie as tie
 
 fits : (c : tie.Start) → SFits w32 (pos (c .args .center) -ℤ pos (c .args .back))
 fits c = let a = pos (c .args .center) in let b = pos (c .args .back) in omega (ints, sub-nat a b, apart (a -ℤ b))

@@ -3,8 +3,8 @@ use mathlib.Core.Bool.{Bool, _&&_, cond}
 use Prim.Native.Nat.{ℕ, _+_, _*_}
 use lib.IntN.{ℤ, pos, _-ℤ_}
 use Rattle.model.specs.Boxes.{inI32}
-use Rattle.boxes.specs.declared.Axis.{Axis}
-use Rattle.boxes.specs.declared.Axis.the-variants.{Sides, Overflow}
+use Rattle.axes.specs.declared.Axis.{Axis}
+use Rattle.axes.specs.declared.Axis.the-variants.{Sides, Overflow}
 
 -- i32 holds all four sides
 abbrev pub held : ℤ → ℤ → ℤ → ℤ → Bool
