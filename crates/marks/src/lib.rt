@@ -11,6 +11,7 @@ ghost use lib.Dec.{ltb};
 ghost use lib.IntN.{pos, natAbs};
 ghost use lib.ListN.{length, getD};
 ghost use Rattle.model.specs.Ground.{ground};
+ghost use Rattle.model.specs.Areas.{cleared};
 ghost use Rattle.marks.specs.Marks.{Centers, Ready, Roomy, areas, frameOf, markOf};
 ghost use Rattle.marks.specs.Passes.{Row, Part, Settled};
 
@@ -74,7 +75,7 @@ fn blocked_centers(
 }
 
 // The window's corner and its size.
-fn frame_of(window: PixelRect) -> Frame
+pub fn frame_of(window: PixelRect) -> Frame
     requires { ⌜ (window .left ≡ pos (natAbs (window .left))) × (window .top ≡ pos (natAbs (window .top))) ⌝ }
     ensures { λ r. ⌜ r ≡ frameOf window ⌝ }
 {
@@ -129,4 +130,16 @@ pub fn mark_centers(
     );
     counts::count_plan(planned, frame, mover, plan);
     settle(base, planned, marks, w, h);
+}
+
+// Writes 0 to the first n marks.
+pub fn clear_marks(marks: &mut [u8], n: usize)
+    requires { ⌜ n ≤ length (now marks) ⌝ }
+    ensures { λ _. ⌜ now (marks .exit) ≡ cleared n (now (marks .entry)) ⌝ }
+{
+    let mut i = 0;
+    while i < n {
+        marks[i] = 0;
+        i += 1;
+    }
 }
