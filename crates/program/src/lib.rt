@@ -1,4 +1,4 @@
-// The program wall report, but for reading and writing: the bytes of a packed query to the text that is printed.
+// The program wall report: the bytes of a packed query to the text that is printed.
 ghost use mathlib.Core.Path.{_≡_};
 ghost use mathlib.Core.List.{_++_};
 ghost use Prim.Native.Nat.{_≤_, _<_};
@@ -10,6 +10,7 @@ ghost use Rattle.model.specs.Report.{refusedText};
 ghost use Rattle.text.specs.Writing.{Wrote};
 ghost use Rattle.report.specs.Printing.{reportRoom, refusedRoom};
 ghost use Rattle.program.specs.Promise.{headerLines, readingLines, checkLines, Told, Printed, Ran, longest};
+use libc::STDOUT_FILENO;
 use model::Outcome;
 use model::WallError;
 use model::WallQuery;
@@ -151,4 +152,13 @@ pub fn run(out: &mut [u8], buffer: &[u8], n: usize) -> usize
     ensures { λ r. ⌜ Ran (now (buffer .entry)) n (now (out .entry)) (now (out .exit)) r ⌝ }
 {
     print_input(out, &buffer[..n])
+}
+
+// Reads a packed query from a file, and writes what the program prints for it.
+pub fn report_from(input: i32) {
+    let mut buffer = [0u8; 8192];
+    let n = io::read_full(input, &mut buffer);
+    let mut out = [0u8; 171115];
+    let end = run(&mut out, &buffer, n);
+    io::write_all(STDOUT_FILENO, &out[..end]);
 }

@@ -1,9 +1,9 @@
--- `wall_report::main` is safe: the text ends within the buffer. Assumes nothing.
+-- `program::report_from` is safe: the text ends within the buffer. Assumes nothing.
 use mathlib.Core.Path.{sym}
 use lib.Seq.{length-take-le}
 use borrow.Author.Needs.{needs}
-use Rattle.wall_report.proofs.main.Statement.{statement}
-use Rattle.wall_report.proofs.main.Tie as tie
+use Rattle.program.proofs.report_from.Statement.{statement}
+use Rattle.program.proofs.report_from.Tie as tie
 
 slice-aggregate-read-full : tie.Need-slice-aggregate-read-full
 slice-aggregate-read-full c = search needs
@@ -32,8 +32,8 @@ write-all-requires c κs = search needs
 returns : tie.Need-returns
 returns c = search needs
 
-pub main-spec : {M : Type 1} → statement M
-main-spec =
+pub report-from-spec : {M : Type 1} → statement M
+report-from-spec =
     tie.close
     (tie.spec
     slice-aggregate-read-full
