@@ -4,13 +4,34 @@ use lib.IntN.{pos}
 use mir.Syntax.{w32, w64}
 use mir.Val.{SFits, toZ}
 use borrow.Author.Needs.{needs}
-use Rattle.numbers.proofs.Integers.{reads, widened}
+use Rattle.numbers.proofs.Integers.{read-u32, widens, widened}
 use Rattle.model.specs.Boxes.{holds}
 use Rattle.query_way.proofs.window_holds.Statement.{statement}
 use Rattle.query_way.proofs.window_holds.Tie as tie
 
+-- i32 holds the sides
+module _ (c : tie.Start) where
+  left : SFits w32 (c .args .window .left)
+  left = search needs
+
+  top : SFits w32 (c .args .window .top)
+  top = search needs
+
+  right : SFits w32 (c .args .window .right)
+  right = search needs
+
+  bottom : SFits w32 (c .args .window .bottom)
+  bottom = search needs
+
+  -- and an i64 reads the center as it is
+  x : toZ w64 (c .args .p .x) ≡ pos (c .args .p .x)
+  x = read-u32 (search needs)
+
+  y : toZ w64 (c .args .p .y) ≡ pos (c .args .p .y)
+  y = read-u32 (search needs)
+
 cast-result : tie.Need-cast-result
-cast-result c = search reads
+cast-result c = widens (left (c .before .before))
 
 cast-result-2 : tie.Need-cast-result-2
 cast-result-2 c = search needs
@@ -19,10 +40,10 @@ cast-result-3 : tie.Need-cast-result-3
 cast-result-3 c = search needs
 
 cast-result-4 : tie.Need-cast-result-4
-cast-result-4 c = search reads
+cast-result-4 c = widens (right (c .before .before .before .before .before .before))
 
 cast-result-5 : tie.Need-cast-result-5
-cast-result-5 c = search reads
+cast-result-5 c = widens (top (c .before .before .before .before .before .before .before .before))
 
 cast-result-6 : tie.Need-cast-result-6
 cast-result-6 c = search needs
@@ -31,19 +52,13 @@ cast-result-7 : tie.Need-cast-result-7
 cast-result-7 c = search needs
 
 cast-result-8 : tie.Need-cast-result-8
-cast-result-8 c = search reads
+cast-result-8 c = widens (bottom (c .before .before .before .before .before .before .before .before .before .before .before .before))
 
 returns : tie.Need-returns
 unfolding holds
 returns c =
-    let a = c .before .before .before .before .before .before .before .before .before .before .before .before .args in
-    let left : SFits w32 (a .window .left) = search needs in
-    let top : SFits w32 (a .window .top) = search needs in
-    let right : SFits w32 (a .window .right) = search needs in
-    let bottom : SFits w32 (a .window .bottom) = search needs in
-    let x : toZ w64 (a .p .x) ≡ pos (a .p .x) = search reads in
-    let y : toZ w64 (a .p .y) ≡ pos (a .p .y) = search reads in
-    rw (widened left, widened right, widened top, widened bottom, x, y)
+    let s = c .before .before .before .before .before .before .before .before .before .before .before .before in
+    rw (widened (left s), widened (right s), widened (top s), widened (bottom s), x s, y s)
 
 pub window-holds-spec : {M : Type 1} → statement M
 window-holds-spec =
