@@ -8,10 +8,15 @@ use Rattle.model.specs.declared.WallQuery.{WallQuery}
 use Rattle.model.specs.Lists.{table}
 use Rattle.model.specs.Areas.{begun}
 use Rattle.model.specs.Packed.{fieldAt, signed, headerIn, areaIn, cellsIn, wordIn, wordsIn, queryIn}
+use Rattle.model.proofs.Lists.{table-length}
 use Rattle.packed.specs.declared.Header.{Header}
-use Rattle.packed.specs.Reading.{HeaderIs, queryFrom}
-use Rattle.packed.proofs.Fields.{begun-table}
+use Rattle.bits.specs.Reading.{queryFrom}
+use Rattle.packed.specs.Reading.{HeaderIs}
 use Rattle.packed.proofs.Length.{area-in}
+
+-- a list filled with n values begins with them
+begun-table : {A : Type 0} (f : ℕ → A) (n : ℕ) (d : List A) → table f n ++ drop n d ≡ begun (table f n) d
+begun-table f n d = rw (table-length f n)
 
 module _ {s : List ℕ} {h : Header} (e : HeaderIs s h) where
   pub cells-read : (was now : List ℕ) (n : ℕ) → n ≡ h .width * h .height → now ≡ table (λ k. fieldAt s (40 + 5 * k) 5) n ++ drop n was → now ≡ begun (cellsIn s) was

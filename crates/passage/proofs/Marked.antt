@@ -1,7 +1,7 @@
 -- From the marks of a window that the checks accept to one mover's passage. Assumes nothing.
 use mathlib.Core.Path.{_≡_, ap, _∙_}
 use mathlib.Core.List.{List, _++_}
-use Prim.Native.Nat.{ℕ, _*_, _≤_}
+use Prim.Native.Nat.{ℕ}
 use native.Mathlib.Omega.{arith}
 use lib.IntN.{natAbs}
 use lib.ListN.{take, drop, replicate}
@@ -16,7 +16,7 @@ use Rattle.model.specs.Ground.{Ground, before, after, built, passable}
 use Rattle.model.specs.Areas.{markRoom, centerRoom, cleared}
 use Rattle.model.specs.RouteTest.{TestAreas}
 use Rattle.model.proofs.Reading.{after-before}
-use Rattle.model.proofs.Valid.{Windowed, Within}
+use Rattle.model.proofs.Valid.{Within}
 use Rattle.marks.specs.Marks.{Ready, Centers, areas}
 use Rattle.marks.proofs.Showing.{marks-agree}
 use Rattle.route.specs.Answer.{Window, Inside}

@@ -1,8 +1,8 @@
 -- One mover's passage between one pair of ends: what is answered, and what the areas 3 to 8 then hold. Assumes nothing.
 use mathlib.Core.Path.{_≡_}
 use mathlib.Core.Bool.{Bool, true, false}
-use mathlib.Core.List.{List, [], map}
-use Prim.Native.Nat.{ℕ, _*_, _≤_}
+use mathlib.Core.List.{List, map}
+use Prim.Native.Nat.{ℕ, _≤_}
 use lib.Dec.{T}
 use lib.ListN.{length}
 use Rattle.model.specs.declared.PixelRect.{PixelRect}
@@ -18,7 +18,6 @@ use Rattle.model.specs.Passage.{Passage, Passing}
 use Rattle.model.specs.Areas.{differenceRoom, markRoom, centerRoom, begun, cleared}
 use Rattle.model.proofs.Shifted.{Agree}
 use Rattle.marks.specs.Marks.{Unmarked}
-use Rattle.route.specs.Answer.{Clear}
 use Rattle.passage.specs.declared.Looked.{Looked}
 use Rattle.passage.specs.declared.Looked.the-variants.{NoStart, NoEnd, Led, NoWay}
 

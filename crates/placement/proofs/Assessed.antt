@@ -12,11 +12,12 @@ use Rattle.model.specs.Ground.{Ground, obstacles, built}
 use Rattle.model.specs.Placement.{issuesOf, issueWord, placementOf, placements, issueWords}
 use Rattle.model.specs.Areas.{issueRoom}
 use Rattle.model.specs.Check.{noPlacement}
-use Rattle.placement.specs.Issues.{Put}
+use Rattle.issue_words.specs.Issues.{Put}
 use Rattle.model.specs.Packed.{noBuilding}
 use Rattle.placement.specs.Assessed.{OneAssessed, AllAssessed, buildingAt}
-use Rattle.placement.proofs.Puts.{nothing-put, put-length, then}
-use Rattle.placement.proofs.Each.{each, eachFrom, each-next, each-room, each-all, buildingPart, placementPart, words-each, placements-each}
+use Rattle.issue_words.proofs.Puts.{nothing-put, put-length, then}
+use Rattle.placement_issues.proofs.Each.{each, eachFrom, each-next, each-room, each-all}
+use Rattle.placement.proofs.Each.{buildingPart, placementPart, words-each, placements-each}
 use Rattle.placement.proofs.Counts.{room-enough}
 
 module _ (g : Ground) (plan : Plan) (was : List ℕ) where

@@ -15,7 +15,7 @@ use Rattle.model.specs.Boxes.{meets, inMap, footprintBox, collisionBox}
 use Rattle.model.specs.Ground.{Ground, obstacles}
 use Rattle.model.specs.Placement.{Issue, OutOfMap, UnbuildableTerrain, OverlapsObstacle, OverlapsBuilding, issueWord, badCells, issuesOf, wordsFrom, issueWords}
 use Rattle.model.specs.Areas.{issueRoom}
-use Rattle.placement.specs.Issues.{noted}
+use Rattle.issue_words.specs.Issues.{noted}
 use Rattle.footprints.specs.Cells.{nonEmpty}
 
 keep-most : (t : Bool) (n : ℕ) (ns : List ℕ) → length (keepIf t n ns) ≤ suc (length ns)

@@ -1,7 +1,5 @@
 -- The laws that the proofs of several functions cite.
-pub mod Puts
 pub mod Each
-pub mod Written
 pub mod Plans
 pub mod Parts
 pub mod Counts

@@ -12,9 +12,10 @@ use Rattle.model.specs.declared.BuildingGeometry.{BuildingGeometry}
 use Rattle.model.specs.Boxes.{footprintBox}
 use Rattle.model.specs.Ground.{ground, rects}
 use Rattle.model.specs.Placement.{Issue, badCells, issuesOf, issueWord}
-use Rattle.placement.specs.Issues.{Put}
-use Rattle.placement.specs.Assessed.{OneAssessed, boxesOf, groundWords, obstacleWords, buildingWords}
-use Rattle.placement.proofs.Puts.{put-length, then}
+use Rattle.issue_words.specs.Issues.{Put}
+use Rattle.placement_issues.specs.Words.{boxesOf, groundWords, obstacleWords, buildingWords}
+use Rattle.placement.specs.Assessed.{OneAssessed}
+use Rattle.issue_words.proofs.Puts.{put-length, then}
 
 module _ (width height : ℕ) (cells : List ℕ) (words : List ℤ) (bs : List WallBuilding) (k : ℕ) (b : WallBuilding) where
   abbrev issues : List Issue

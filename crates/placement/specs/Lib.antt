@@ -1,3 +1,2 @@
--- What the contracts of this crate's inner functions say, over the definitions of `model`.
-pub mod Issues
+-- What the contracts of this crate's functions say, over the definitions of `model`.
 pub mod Assessed

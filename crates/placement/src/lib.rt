@@ -1,236 +1,14 @@
-// Placement issues: what is wrong with where each building of a plan stands, as words in a lent area, and both boxes of each building.
+// Placements: both boxes of each building of a plan, and what is wrong with where it stands, as words in a lent area.
 ghost use mathlib.Core.Path.{_≡_};
-ghost use mathlib.Core.Bool.{not, _&&_};
-ghost use mathlib.Core.List.{map};
-ghost use Prim.Native.Nat.{_+_, _*_, _≤_, _<_};
+ghost use Prim.Native.Nat.{_+_, _≤_, _<_};
 ghost use lib.ListN.{length};
-ghost use Rattle.model.specs.declared.Geometry.the-variants.{Fits};
-ghost use Rattle.model.specs.Boxes.{inMap, footprintBox};
 ghost use Rattle.model.specs.Ground.{ground, rects, built};
-ghost use Rattle.model.specs.Placement.{issueWord, issuesOf};
-ghost use Rattle.model.specs.Refusal.{geometryOf, caps};
+ghost use Rattle.model.specs.Placement.{issuesOf};
 ghost use Rattle.model.specs.Areas.{issueRoom};
-ghost use Rattle.model.specs.Check.{noRect, noPlacement};
-ghost use Rattle.footprints.specs.Cells.{badUnder, nonEmpty};
-ghost use Rattle.placement.specs.Issues.{Put, issueOf, index, kind, noted};
-ghost use Rattle.placement.specs.Assessed.{Fitting, Assessable, OneAssessed, AllAssessed, boxesOf, buildingAt, groundWords, obstacleWords, buildingWords};
-use model::BuildingGeometry;
-use model::Geometry;
-use model::PixelRect;
+ghost use Rattle.model.specs.Check.{noPlacement};
+ghost use Rattle.placement.specs.Assessed.{Assessable, OneAssessed, AllAssessed, buildingAt};
 use model::Plan;
-use model::WallBuilding;
 use model::WallPlacement;
-
-// An issue's word holds building (5 bits), kind (2), zero (12), index (13): one building is 2^27, one kind 2^25.
-const BUILDING: u32 = 134217728;
-
-const KIND: u32 = 33554432;
-
-// What can be wrong with a building's place, in document 01's order.
-enum PlacementIssue {
-    OutOfMap,
-    UnbuildableTerrain,
-    OverlapsObstacle { index: usize },
-    OverlapsBuilding { index: usize },
-}
-
-// The issue's kind, 0 to 3.
-fn kind_of(issue: PlacementIssue) -> u32
-    ensures { λ r. ⌜ r ≡ kind (issueOf issue) ⌝ }
-{
-    match issue {
-        PlacementIssue::OutOfMap => 0,
-        PlacementIssue::UnbuildableTerrain => 1,
-        PlacementIssue::OverlapsObstacle { index: _ } => 2,
-        PlacementIssue::OverlapsBuilding { index: _ } => 3,
-    }
-}
-
-// The number of what is overlapped, and 0 where the kind has none.
-fn index_of(issue: PlacementIssue) -> usize
-    ensures { λ r. ⌜ r ≡ index (issueOf issue) ⌝ }
-{
-    match issue {
-        PlacementIssue::OutOfMap => 0,
-        PlacementIssue::UnbuildableTerrain => 0,
-        PlacementIssue::OverlapsObstacle { index } => index,
-        PlacementIssue::OverlapsBuilding { index } => index,
-    }
-}
-
-// The issue of a building as a word.
-fn issue_word(building: usize, issue: PlacementIssue) -> u32
-    requires { ⌜ (building < (caps .buildings)) × (index (issueOf issue) < (caps .obstacles)) ⌝ }
-    ensures { λ r. ⌜ r ≡ issueWord building (issueOf issue) ⌝ }
-{
-    let kind = kind_of(issue);
-    let index = index_of(issue);
-    building as u32 * BUILDING + kind * KIND + index as u32
-}
-
-// Writes the issue's word behind the first `at` words if the issue was found, and answers how many words stand there then.
-fn put_if(
-    found: bool,
-    building: usize,
-    issue: PlacementIssue,
-    issues: &mut [u32],
-    at: usize,
-) -> usize
-    requires { ⌜ (building < (caps .buildings)) × ((index (issueOf issue) < (caps .obstacles)) × (at + length (noted found (issueOf issue)) ≤ length (now issues))) ⌝ }
-    ensures { λ r. ⌜ Put (now (issues .entry)) at (map (issueWord building) (noted found (issueOf issue))) (now (issues .exit)) r ⌝ }
-{
-    if found {
-        issues[at] = issue_word(building, issue);
-        return at + 1;
-    }
-    at
-}
-
-// All zero.
-fn no_rect() -> PixelRect
-    ensures { λ r. ⌜ r ≡ noRect ⌝ }
-{
-    PixelRect {
-        left: 0,
-        top: 0,
-        right: 0,
-        bottom: 0,
-    }
-}
-
-// Both boxes of a building that validation has passed: i32 holds them.
-fn boxes_of(b: WallBuilding) -> BuildingGeometry
-    requires { ⌜ geometryOf b ≡ Fits (boxesOf b) ⌝ }
-    ensures { λ r. ⌜ r ≡ boxesOf b ⌝ }
-{
-    let geometry = boxes::building_geometry(b);
-    match geometry {
-        Geometry::Fits(boxes) => boxes,
-        Geometry::Overflow => {
-            let none = no_rect();
-            BuildingGeometry {
-                footprint: none,
-                collision: none,
-            }
-        }
-    }
-}
-
-// Whether one of a building's boxes leaves the map.
-fn out_of_map(width: u32, height: u32, boxes: BuildingGeometry) -> bool
-    ensures { λ r. ⌜ r ≡ not (inMap width height (boxes .footprint) && inMap width height (boxes .collision)) ⌝ }
-{
-    let footprint = boxes.footprint;
-    let collision = boxes.collision;
-    let inside = boxes::rect_in_map(footprint, width, height);
-    let clear = boxes::rect_in_map(collision, width, height);
-    !(inside & clear)
-}
-
-// Whether a building's footprint is in the map and has a bad cell.
-fn on_bad_terrain(
-    width: u32,
-    height: u32,
-    cells: &[u8],
-    b: WallBuilding,
-    footprint: PixelRect,
-) -> bool
-    requires { ⌜ (length (now cells) ≡ width * height) × (footprint ≡ footprintBox b) ⌝ }
-    ensures { λ r. ⌜ r ≡ inMap width height (footprintBox b) && nonEmpty (badUnder width (now (cells .entry)) b) ⌝ }
-{
-    if boxes::rect_in_map(footprint, width, height) {
-        return !footprints::footprint_buildable(width, cells, b);
-    }
-    false
-}
-
-// Writes OverlapsObstacle for each obstacle that meets the footprint, index rising.
-fn overlaps_obstacles(
-    words: &[i32],
-    footprint: PixelRect,
-    building: usize,
-    issues: &mut [u32],
-    at: usize,
-) -> usize
-    requires { ⌜ (building < (caps .buildings)) × (length (rects (now words)) ≤ (caps .obstacles)) ⌝ }
-    requires { ⌜ at + length (obstacleWords building footprint (rects (now words))) ≤ length (now issues) ⌝ }
-    ensures { λ r. ⌜ Put (now (issues .entry)) at (obstacleWords building footprint (rects (now (words .entry)))) (now (issues .exit)) r ⌝ }
-{
-    let count = words.len() / 4;
-    let mut next = at;
-    let mut i = 0;
-    while i < count {
-        let obstacle = boxes::obstacle_at(words, i);
-        let found = boxes::intersects(footprint, obstacle);
-        next = put_if(
-            found,
-            building,
-            PlacementIssue::OverlapsObstacle { index: i },
-            issues,
-            next,
-        );
-        i += 1;
-    }
-    next
-}
-
-// Writes OverlapsBuilding for each other building whose footprint meets this one, index rising.
-fn overlaps_buildings(
-    plan: Plan,
-    footprint: PixelRect,
-    building: usize,
-    issues: &mut [u32],
-    at: usize,
-) -> usize
-    requires { ⌜ (building < (caps .buildings)) × Fitting plan ⌝ }
-    requires { ⌜ at + length (buildingWords building footprint (built plan)) ≤ length (now issues) ⌝ }
-    ensures { λ r. ⌜ Put (now (issues .entry)) at (buildingWords building footprint (built plan)) (now (issues .exit)) r ⌝ }
-{
-    let count = plan.count;
-    let mut next = at;
-    let mut i = 0;
-    while i < count {
-        let other = plan.buildings[i];
-        let boxes = boxes_of(other);
-        let found = (i != building) & boxes::intersects(footprint, boxes.footprint);
-        next = put_if(
-            found,
-            building,
-            PlacementIssue::OverlapsBuilding { index: i },
-            issues,
-            next,
-        );
-        i += 1;
-    }
-    next
-}
-
-// Writes OutOfMap if one of the boxes leaves the map, and UnbuildableTerrain if the footprint is in it and has a bad cell.
-fn ground_issues(
-    width: u32,
-    height: u32,
-    cells: &[u8],
-    b: WallBuilding,
-    boxes: BuildingGeometry,
-    building: usize,
-    issues: &mut [u32],
-    at: usize,
-) -> usize
-    requires { ⌜ (building < (caps .buildings)) × ((length (now cells) ≡ width * height) × (boxes ≡ boxesOf b)) ⌝ }
-    requires { ⌜ at + length (groundWords width height (now cells) building b) ≤ length (now issues) ⌝ }
-    ensures { λ r. ⌜ Put (now (issues .entry)) at (groundWords width height (now (cells .entry)) building b) (now (issues .exit)) r ⌝ }
-{
-    let out = out_of_map(width, height, boxes);
-    let next = put_if(out, building, PlacementIssue::OutOfMap, issues, at);
-    let bad = on_bad_terrain(width, height, cells, b, boxes.footprint);
-    put_if(
-        bad,
-        building,
-        PlacementIssue::UnbuildableTerrain,
-        issues,
-        next,
-    )
-}
 
 // Both boxes of one building and the number of its issues, whose words it writes behind the first `at`.
 fn assess_building(
@@ -248,12 +26,27 @@ fn assess_building(
     ensures { λ r. ⌜ OneAssessed (ground width height (now (cells .entry)) (now (words .entry))) (built plan) building (buildingAt plan building) (now (issues .entry)) at (now (issues .exit)) r ⌝ }
 {
     let b = plan.buildings[building];
-    let boxes = boxes_of(b);
+    let boxes = placement_issues::boxes_of(b);
     let footprint = boxes.footprint;
     let collision = boxes.collision;
-    let on_ground = ground_issues(width, height, cells, b, boxes, building, issues, at);
-    let on_obstacles = overlaps_obstacles(words, footprint, building, issues, on_ground);
-    let end = overlaps_buildings(plan, footprint, building, issues, on_obstacles);
+    let on_ground = placement_issues::ground_issues(
+        width,
+        height,
+        cells,
+        b,
+        boxes,
+        building,
+        issues,
+        at,
+    );
+    let on_obstacles = placement_issues::overlaps_obstacles(
+        words,
+        footprint,
+        building,
+        issues,
+        on_ground,
+    );
+    let end = placement_issues::overlaps_buildings(plan, footprint, building, issues, on_obstacles);
     WallPlacement {
         footprint,
         collision,
@@ -265,7 +58,7 @@ fn assess_building(
 fn no_placement() -> WallPlacement
     ensures { λ r. ⌜ r ≡ noPlacement ⌝ }
 {
-    let none = no_rect();
+    let none = placement_issues::no_rect();
     WallPlacement {
         footprint: none,
         collision: none,

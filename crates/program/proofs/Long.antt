@@ -17,7 +17,7 @@ use Rattle.model.specs.Packed.{bitAt, fieldAt, headerIn, areaIn, bytesIn, packe
 use Rattle.model.specs.Report.{programLines, PrintsAs, Prints}
 use Rattle.model.proofs.Lines.{first-append}
 use Rattle.model.proofs.Valid.{none-line, neither}
-use Rattle.packed.proofs.Fields.{field-lt}
+use Rattle.bits.proofs.Fields.{field-lt}
 use Rattle.packed.proofs.Length.{too-long}
 use Rattle.program.specs.Promise.{headerLines, readingLines, checkLines, longest}
 use Rattle.program.proofs.Stages.{all-lines}

@@ -1,3 +1,2 @@
 -- Laws that the proofs of the stages cite.
-pub mod Searches
 pub mod Runs

@@ -14,7 +14,7 @@ pub query-runs : (g : Ground) (q : WallQuery) → first (queryLines g q) ≡ fir
 query-runs g q = simp append-assoc
 
 -- the buildings are looked at only where there are few enough
-pub way-counted : (width height : ℕ) (q : WallQuery) {o : Outcome} → o ≡ Accepted → given o ≡ first (wayLines width height q) → q .plan .count ≤ (caps .buildings)
+pub way-counted : (width height : ℕ) (q : WallQuery) {o : Outcome} → o ≡ Accepted → given o ≡ first (wayLines width height q) → q .plan .count ≤ caps .buildings
 way-counted width height q e h =
     let way = none-both (moverLines (q .mover)) _ (sym h ∙ ap given e) in
     counted (q .plan .count) (none-both (countLines (q .plan .count)) (windowLines width height (q .window) ++ endLines (q .window) (q .start) (q .end)) (way .1) .0)

@@ -15,8 +15,10 @@ use Rattle.model.specs.declared.WallPassage.{WallPassage}
 use Rattle.model.specs.declared.WallPassage.the-variants.{StartBlocked, EndBlocked, Open, AlreadyDisconnected, BlockedWithinWindow}
 use Rattle.model.specs.declared.WallPlacement.{WallPlacement}
 use Rattle.model.specs.Report.{bytes, digits, decimal, spaced, boxText, placementLine, kindNames, issueLine, placementLines, pointLine, reportText, refusedText}
-use Rattle.report.specs.Printing.{verdictText, passageText, issueSum, reportRoom, refusedRoom}
-use Rattle.report.proofs.Lines.{placement-length, report-length}
+use Rattle.report_placements.proofs.Lines.{placement-length}
+use Rattle.report_passage.specs.Passage.{verdictText, passageText}
+use Rattle.report.specs.Printing.{issueSum, reportRoom, refusedRoom}
+use Rattle.report.proofs.Lines.{report-length}
 
 digits-few : (k n : ℕ) → length (digits k n) ≤ k
 unfolding digits

@@ -1,23 +1,9 @@
--- The pieces of a report, what it counts, and how much room it needs. Assumes nothing.
-use mathlib.Core.Bool.{cond}
-use mathlib.Core.List.{List, [], _∷_, _++_}
+-- What a report counts, and how much room it needs. Assumes nothing.
+use mathlib.Core.List.{List, [], _∷_}
 use Prim.Native.Nat.{ℕ, _+_, _≤_}
-use lib.ListN.{length, take, getD}
-use Rattle.model.specs.declared.Passed.{Passed}
+use lib.ListN.{length, take}
 use Rattle.model.specs.declared.WallCheck.{WallCheck}
-use Rattle.model.specs.declared.WallPassage.{WallPassage}
 use Rattle.model.specs.declared.WallPlacement.{WallPlacement}
-use Rattle.model.specs.Passage.{rank}
-use Rattle.model.specs.Report.{bytes, decimal, verdictNames}
-
--- the verdict's line, but for its end
-abbrev pub verdictText : WallPassage → List ℕ
-verdictText p = bytes "passage " ++ bytes (getD verdictNames (rank p) "")
-
--- the lines between the placements and the points: the verdict; 1 or 0; the number of points
-abbrev pub passageText : Passed → List ℕ
-passageText p =
-    verdictText (p .passage) ++ (bytes "\nbaseline " ++ (cond (p .«baseline_passable») (bytes "1") (bytes "0") ++ (bytes "\nroute " ++ (decimal (p .points) ++ bytes "\n"))))
 
 -- how many issue words the placements count
 abbrev pub issueSum : List WallPlacement → ℕ

@@ -2,11 +2,12 @@
 ghost use mathlib.Core.Path.{_≡_};
 ghost use mathlib.Core.Bool.{_&&_};
 ghost use mathlib.Core.List.{[], map};
-ghost use Prim.Native.Nat.{_≤_};
+ghost use Prim.Native.Nat.{_+_, _*_, _≤_};
 ghost use lib.Dec.{eqb};
-ghost use lib.ListN.{length, getD, drop};
+ghost use lib.ListN.{length, getD, take, drop};
 ghost use Rattle.model.specs.Steps.{pointOf};
 ghost use Rattle.model.specs.RouteTest as test;
+ghost use Rattle.route.specs.Answer.{Window};
 ghost use Rattle.route_list.specs.Reading.{ByMarks, Framed};
 use model::PixelPosition;
 use stamps::Frame;
@@ -108,7 +109,7 @@ fn leads_to(marks: &[u8], frame: Frame, list: &[u32], end: PixelPosition) -> boo
 }
 
 // Whether the list is a passage: not empty, from the start, to the end, over free centers and past no corner.
-pub fn is_passage(
+fn is_passage(
     marks: &[u8],
     frame: Frame,
     list: &[u32],
@@ -125,4 +126,20 @@ pub fn is_passage(
         return false;
     }
     leads_to(marks, frame, list, end)
+}
+
+// The same by the marks after the plan, which stand behind those before it.
+pub fn is_passage_planned(
+    marks: &[u8],
+    frame: Frame,
+    list: &[u32],
+    start: PixelPosition,
+    end: PixelPosition,
+) -> bool
+    requires { ⌜ Window (frame .left) (frame .top) (frame .width) (frame .height) × (frame .width * frame .height + frame .width * frame .height ≤ length (now marks)) ⌝ }
+    ensures { λ r. ⌜ ByMarks (take (frame .width * frame .height) (drop (frame .width * frame .height) (now (marks .entry)))) frame (λ free. test.isPassage free start end (map pointOf (now (list .entry)))) r ⌝ }
+{
+    let n = frame.width * frame.height;
+    let both = n + n;
+    is_passage(&marks[n..both], frame, list, start, end)
 }

@@ -1,4 +1,4 @@
--- The laws of texts in a buffer, which the crate above cites too.
+-- The laws of texts in a buffer, which the crates above cite too.
 pub mod Chain
+pub mod Lines
 pub mod Spelt
-pub mod Signs

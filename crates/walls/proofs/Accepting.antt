@@ -1,7 +1,7 @@
 -- What the stages of a check have shown once none refuses, and the answer that they make together. Assumes nothing.
 use mathlib.Core.Path.{_≡_, refl, sym, ap, _∙_}
 use mathlib.Core.List.{List, _++_}
-use Prim.Native.Nat.{ℕ, _/_, _≤_}
+use Prim.Native.Nat.{ℕ, _/_}
 use native.Mathlib.Omega.{arith}
 use lib.ListN.{length}
 use Rattle.model.specs.declared.Outcome.{Outcome}
@@ -11,9 +11,7 @@ use Rattle.model.specs.declared.WallPlacement.{WallPlacement}
 use Rattle.model.specs.declared.WallQuery.{WallQuery}
 use Rattle.model.specs.Ground.{Ground, obstacles}
 use Rattle.model.specs.Refusal.{Line, given, first, queryLines}
-use Rattle.model.specs.Areas.{roomLines}
-use Rattle.model.specs.Check.{CheckAreas, Checked, checkRooms}
-use Rattle.model.proofs.Enough.{CheckEnough, check-enough}
+use Rattle.model.specs.Check.{CheckAreas, Checked}
 use Rattle.model.proofs.Valid.{Valid, valid, none-both}
 use Rattle.placement.specs.Assessed.{AllAssessed}
 use Rattle.passage.specs.Passing.{PassAreas, PassAnswers, passAreas}

@@ -1,18 +1,20 @@
 // The entry that hosts call: whether the walls of a plan let a mover through. Any caller can lend any slices and ask any query.
 ghost use mathlib.Core.Path.{_≡_};
 ghost use mathlib.Core.List.{_++_};
-ghost use Prim.Native.Nat.{_≤_};
 ghost use lib.ListN.{length};
 ghost use Rattle.model.specs.Ground.{ground};
 ghost use Rattle.model.specs.Refusal.{given, first, queryLines};
 ghost use Rattle.model.specs.Areas.{roomLines};
 ghost use Rattle.model.specs.Check.{CheckAreas, Answers, Checked, checkRooms, noCheck};
+ghost use Rattle.model.specs.RouteTest.{TestAreas, TestAnswers, TestLeaves, testRooms};
 ghost use Rattle.model.proofs.Valid.{Valid};
-ghost use Rattle.model.proofs.Enough.{CheckEnough};
+ghost use Rattle.model.proofs.Enough.{CheckEnough, TestEnough};
+ghost use Rattle.marks.specs.Marks.{areas};
 ghost use Rattle.rooms.specs.Lengths.{lengths};
 use model::Outcome;
 use model::Passed;
 use model::PixelRect;
+use model::TestReply;
 use model::WallCheck;
 use model::WallPassage;
 use model::WallPlacement;
@@ -161,5 +163,107 @@ pub fn check_wall(
     WallReply {
         outcome: told,
         check,
+    }
+}
+
+// 1 to 17 of a route test in areas of these lengths.
+fn validate_test(
+    width: u32,
+    height: u32,
+    cells: &[u8],
+    words: &[i32],
+    query: WallQuery,
+    base: usize,
+    plan: usize,
+    marks: usize,
+) -> Outcome
+    ensures { λ r. ⌜ ((a : TestAreas) → base ≡ length (a .base) → plan ≡ length (a .plan) → marks ≡ length (a .marks) → given r ≡ first (queryLines (ground width height (now (cells .entry)) (now (words .entry))) query ++ roomLines (testRooms query a))) ⌝ }
+{
+    let told = query::validate_query(width, height, cells, words, query);
+    let Outcome::Accepted = told else {
+        return told;
+    };
+    rooms::test_room(query, base, plan, marks)
+}
+
+// A route test that nothing refuses: the list against the marks after the plan.
+fn tested(
+    width: u32,
+    height: u32,
+    cells: &[u8],
+    words: &[i32],
+    query: WallQuery,
+    list: &[u32],
+    base: &mut [u32],
+    planned: &mut [u32],
+    marks: &mut [u8],
+) -> bool
+    requires { ⌜ Valid (ground width height (now cells) (now words)) query × TestEnough query (areas (now base) (now planned) (now marks)) ⌝ }
+    ensures { λ r. ⌜ TestLeaves (ground width height (now (cells .entry)) (now (words .entry))) query (now (list .entry)) (areas (now (base .entry)) (now (planned .entry)) (now (marks .entry))) (areas (now (base .exit)) (now (planned .exit)) (now (marks .exit))) Outcome.Accepted r ⌝ }
+{
+    let window = query.window;
+    marks::mark_centers(
+        width,
+        height,
+        cells,
+        words,
+        window,
+        query.mover,
+        query.plan,
+        base,
+        planned,
+        marks,
+    );
+    let frame = marks::frame_of(window);
+    let passes = route_list::is_passage_planned(marks, frame, list, query.start, query.end);
+    marks::clear_marks(marks, 2 * (frame.width * frame.height));
+    passes
+}
+
+// Whether a list of route words is a passage from the query's start to its end after the plan, in the lent areas 3 to 5. A refused
+// call changes none of them.
+pub fn test_route(
+    width: u32,
+    height: u32,
+    cells: &[u8],
+    words: &[i32],
+    query: WallQuery,
+    list: &[u32],
+    base: &mut [u32],
+    planned: &mut [u32],
+    marks: &mut [u8],
+) -> TestReply
+    ensures { λ r. ⌜ TestAnswers (ground width height (now (cells .entry)) (now (words .entry))) query (now (list .entry)) (areas (now (base .entry)) (now (planned .entry)) (now (marks .entry))) (areas (now (base .exit)) (now (planned .exit)) (now (marks .exit))) r ⌝ }
+{
+    let told = validate_test(
+        width,
+        height,
+        cells,
+        words,
+        query,
+        base.len(),
+        planned.len(),
+        marks.len(),
+    );
+    let Outcome::Accepted = told else {
+        return TestReply {
+            outcome: told,
+            passes: false,
+        };
+    };
+    let passes = tested(
+        width,
+        height,
+        cells,
+        words,
+        query,
+        list,
+        base,
+        planned,
+        marks,
+    );
+    TestReply {
+        outcome: told,
+        passes,
     }
 }

@@ -10,7 +10,7 @@ use Rattle.model.specs.Ground.{ground, built}
 use Rattle.model.specs.Placement.{issuesOf}
 use Rattle.model.specs.Packed.{noBuilding}
 use Rattle.placement.specs.Assessed.{buildingAt}
-use Rattle.placement.proofs.Plans.{built-at, fits-at}
+use Rattle.placement_issues.proofs.Plans.{built-at, fits-at}
 use Rattle.placement.proofs.Parts.{room-ground, room-obstacles, room-buildings, all-parts}
 use Rattle.placement.proofs.assess_building.Statement.{statement}
 use Rattle.placement.proofs.assess_building.Tie as tie

@@ -8,8 +8,8 @@ use lib.ListN.{length, replicate, length-map}
 use Rattle.model.specs.declared.WallPlacement.{WallPlacement}
 use Rattle.model.specs.Ground.{Ground, ground, obstacles, built}
 use Rattle.model.specs.Areas.{issueRoom}
-use Rattle.placement.proofs.Puts.{put-length}
-use Rattle.placement.proofs.Plans.{built-length}
+use Rattle.issue_words.proofs.Puts.{put-length}
+use Rattle.placement_issues.proofs.Plans.{built-length}
 use Rattle.placement.proofs.Assessed.{SoFar, at-first, room-here, after-turn, at-last}
 use Rattle.placement.proofs.assess_placements.Statement.{statement}
 use Rattle.placement.proofs.assess_placements.Tie as tie

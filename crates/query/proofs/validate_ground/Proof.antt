@@ -5,8 +5,6 @@ use Rattle.model.proofs.Lines.{stage-passed, stage-refused}
 use Rattle.query.proofs.validate_ground.Statement.{statement}
 use Rattle.query.proofs.validate_ground.Tie as tie
 
--- `query::validate_ground` meets its contract: three stages in order. Assumes nothing.
-
 validate-size-requires : tie.Need-validate-size-requires
 validate-size-requires c κs = search needs
 

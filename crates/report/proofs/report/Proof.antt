@@ -9,7 +9,7 @@ use lib.Seq.{length-take-le}
 use denote.Ref.{now}
 use Rattle.model.specs.declared.WallPlacement.{WallPlacement}
 use Rattle.model.specs.Report.{bytes, placementLines, pointLine}
-use Rattle.report.specs.Printing.{passageText}
+use Rattle.report_passage.specs.Passage.{passageText}
 use Rattle.text.proofs.Chain.{then, said}
 use Rattle.report.proofs.Lines.{report-text, report-length}
 use Rattle.report.proofs.Sizes.{report-short}

@@ -2,7 +2,7 @@
 use mathlib.Core.Path.{_∙_}
 use native.Mathlib.Omega.{arith}
 use mir.Facts.{toZ-ofZ}
-use Rattle.text.proofs.Signs.{turned, plain}
+use Rattle.text_boxes.proofs.Signs.{turned, plain}
 use borrow.Author.Needs.{needs}
 use Rattle.runs_walls.proofs.print_signed.Statement.{statement}
 use Rattle.runs_walls.proofs.print_signed.Tie as tie

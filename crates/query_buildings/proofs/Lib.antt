@@ -1,0 +1,2 @@
+-- Laws that the proofs of the stage cite.
+pub mod One

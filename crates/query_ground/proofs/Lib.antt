@@ -1,0 +1,2 @@
+-- Laws that the proofs of the stages cite.
+pub mod Found
