@@ -13,7 +13,7 @@ use lib.Seq.{take-all}
 use borrow.Author.Tests.{ltb-false, le-ltb}
 use Rattle.numbers.proofs.First.{or-next}
 use Rattle.model.specs.Refusal.{Refusal, refuse, first}
-use Rattle.model.specs.Packed.{bitAt, fieldAt, headerIn, areaIn, bytesIn, packedLines, groundIn, queryIn}
+use Rattle.model.specs.Packed.{bitAt, fieldAt, headerIn, bytesIn, packedLines, groundIn, queryIn}
 use Rattle.model.specs.Report.{programLines, PrintsAs, Prints}
 use Rattle.model.proofs.Lines.{first-append}
 use Rattle.model.proofs.Valid.{none-line, neither}

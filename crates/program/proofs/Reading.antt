@@ -1,14 +1,13 @@
 -- What an accepted reading leaves is what the bytes say. Assumes nothing.
 use mathlib.Core.Path.{_≡_, sym, ap, _∙_}
-use mathlib.Core.List.{List, _++_}
+use mathlib.Core.List.{List}
 use Prim.Native.Nat.{ℕ, _*_, _≤_}
-use lib.IntN.{ℤ}
 use lib.ListN.{length, take}
 use lib.Seq.{take-at}
 use Rattle.model.specs.declared.Outcome.{Outcome}
 use Rattle.model.specs.declared.PackedQuery.{PackedQuery}
 use Rattle.model.specs.declared.PackedReply.{PackedReply}
-use Rattle.model.specs.Ground.{Ground, ground}
+use Rattle.model.specs.Ground.{ground}
 use Rattle.model.specs.Refusal.{given}
 use Rattle.model.specs.Areas.{roomLines, begun}
 use Rattle.model.specs.Packed.{headerIn, areaIn, cellsIn, wordsIn, groundIn, queryIn, packedLines, ReadAreas, readRooms, ReadLeaves, ReadAnswers}

@@ -1,8 +1,5 @@
 -- `program::number` meets its contract, case by case. Assumes nothing.
 use borrow.Author.Needs.{needs}
-use mathlib.Core.Path.{sym, ap}
-use Rattle.model.specs.Refusal.{refusal}
-use Rattle.model.specs.declared.WallError.{WallError}
 use Rattle.program.proofs.number.Statement.{statement}
 use Rattle.program.proofs.number.Tie as tie
 
