@@ -27,7 +27,7 @@ pub struct Header {
 }
 
 // The header of s. Bits past the end count as 0.
-fn read_header(s: &[u8]) -> Header
+pub fn read_header(s: &[u8]) -> Header
     ensures { λ r. ⌜ HeaderIs (now (s .entry)) r ⌝ }
 {
     let w = Bits { at: 0 }.get(s, 10);

@@ -2,7 +2,6 @@
 ghost use mathlib.Core.Path.{_≡_};
 ghost use Prim.Native.Nat.{_≤_};
 ghost use lib.ListN.{length};
-use libc::STDOUT_FILENO;
 use model::CollisionBounds;
 use model::DepotFootprint;
 use model::Outcome;
@@ -11,8 +10,6 @@ use model::PixelRect;
 use model::Plan;
 use model::TilePosition;
 use model::WallBuilding;
-use model::WallEndpoint;
-use model::WallError;
 use model::WallQuery;
 
 // The numbers of the query, by place: 0 map width, 1 height, 2 number of cells, 3 cell 3, 4 cell 5, 5 number of words, 6 to 9 the words of obstacle 1,
@@ -174,113 +171,6 @@ const CASES: [[u32; 5]; 68] = [
     [1, 13, 9, 13, 9],
 ];
 
-// A refusal's number and its values.
-struct Line {
-    number: u64,
-    count: usize,
-    values: [u64; 4],
-}
-
-fn refusal(number: u64, count: usize, a: u64, b: u64, c: u64, d: u64) -> Line {
-    Line {
-        number,
-        count,
-        values: [a, b, c, d],
-    }
-}
-
-fn endpoint_number(endpoint: WallEndpoint) -> u64 {
-    match endpoint {
-        WallEndpoint::Start => 0,
-        WallEndpoint::End => 1,
-    }
-}
-
-fn line_of(e: WallError) -> Line {
-    match e {
-        WallError::InvalidGridDimensions { width, height } => {
-            refusal(1, 2, width as u64, height as u64, 0, 0)
-        }
-        WallError::CellLength {
-            width,
-            height,
-            expected,
-            actual,
-        } => refusal(
-            2,
-            4,
-            width as u64,
-            height as u64,
-            expected as u64,
-            actual as u64,
-        ),
-        WallError::BadCell { index } => refusal(3, 1, index as u64, 0, 0, 0),
-        WallError::InvalidElevation { index, elevation } => {
-            refusal(4, 2, index as u64, elevation as u64, 0, 0)
-        }
-        WallError::ObstacleWords { length } => refusal(5, 1, length as u64, 0, 0, 0),
-        WallError::TooManyObstacles { actual } => refusal(6, 1, actual as u64, 0, 0, 0),
-        WallError::InvalidObstacle { index } => refusal(7, 1, index as u64, 0, 0, 0),
-        WallError::MoverExtentTooLarge => refusal(8, 0, 0, 0, 0, 0),
-        WallError::TooManyBuildings { actual } => refusal(9, 1, actual as u64, 0, 0, 0),
-        WallError::InvalidWindow => refusal(10, 0, 0, 0, 0, 0),
-        WallError::WindowTooLarge { width, height } => {
-            refusal(11, 2, width as u64, height as u64, 0, 0)
-        }
-        WallError::TooManyCenters { centers } => refusal(12, 1, centers as u64, 0, 0, 0),
-        WallError::EndpointOutsideWindow { endpoint, x, y } => {
-            refusal(13, 3, endpoint_number(endpoint), x as u64, y as u64, 0)
-        }
-        WallError::InvalidFootprint {
-            index,
-            width_tiles,
-            height_tiles,
-        } => refusal(
-            14,
-            3,
-            index as u64,
-            width_tiles as u64,
-            height_tiles as u64,
-            0,
-        ),
-        WallError::CollisionExtentTooLarge { index } => refusal(15, 1, index as u64, 0, 0, 0),
-        WallError::CoordinateOverflow { index } => refusal(16, 1, index as u64, 0, 0, 0),
-        WallError::RoomTooSmall { area } => refusal(17, 1, area as u64, 0, 0, 0),
-        WallError::PackedShort => refusal(18, 0, 0, 0, 0, 0),
-        WallError::PackedTail => refusal(19, 0, 0, 0, 0, 0),
-        WallError::ProgramLimit => refusal(20, 0, 0, 0, 0, 0),
-    }
-}
-
-// A space and the number.
-fn word(n: u64) {
-    io::write_all(STDOUT_FILENO, b" ");
-    io::print_decimal(STDOUT_FILENO, n);
-}
-
-fn print_line(told: Line) {
-    io::write_all(STDOUT_FILENO, b"refused");
-    word(told.number);
-    let values = told.values;
-    let count = told.count;
-    let mut i = 0;
-    while i < 4 {
-        if i < count {
-            word(values[i]);
-        }
-        i += 1;
-    }
-    io::write_all(STDOUT_FILENO, b"\n");
-}
-
-fn print_outcome(outcome: Outcome) {
-    let Outcome::Refused(e) = outcome else {
-        io::write_all(STDOUT_FILENO, b"ok\n");
-        return;
-    };
-    print_line(line_of(e));
-}
-
 // The i32 of the same bits.
 fn signed(w: u32) -> i32 {
     if w < 2147483648 {
@@ -427,7 +317,7 @@ fn case(row: [u32; 5], words: &mut [i32]) {
     words[6] = signed(form[8]);
     words[7] = signed(form[9]);
     let m = at_most(form[5], 32800);
-    print_outcome(run(form, &words[..m]));
+    runs::print_outcome(run(form, &words[..m]));
 }
 
 // 8,200 obstacles of one pixel each: 0, 0, 1, 1. The `ensures` gives the length, which lending the array as a slice needs.

@@ -1,8 +1,8 @@
--- `runs_query::print_line` is safe and ends. Assumes nothing.
+-- `runs::print_line` is safe and ends. Assumes nothing.
 use Prim.Native.Nat.{_≤_, _-_}
 use borrow.Author.Needs.{needs}
-use Rattle.runs_query.proofs.print_line.Statement.{statement}
-use Rattle.runs_query.proofs.print_line.Tie as tie
+use Rattle.runs.proofs.print_line.Statement.{statement}
+use Rattle.runs.proofs.print_line.Tie as tie
 
 abbrev Inv-loop : tie.InvT-loop
 Inv-loop values count i₀ t6 i = i ≤ 4
@@ -19,24 +19,24 @@ write-all-requires : tie.Need-write-all-requires Inv-loop μ-loop
 write-all-requires c κs = search needs
 
 -- src/main.rt:260:5
-word-requires : tie.Need-word-requires Inv-loop μ-loop
-word-requires c κs = search needs
+print-word-requires : tie.Need-print-word-requires Inv-loop μ-loop
+print-word-requires c κs = search needs
 
 -- src/main.rt:264:5
 loop-holds : tie.Need-loop-holds Inv-loop μ-loop
 loop-holds c = search needs
 
 -- src/main.rt:266:18
-mul-word : tie.Need-mul-word Inv-loop μ-loop
-mul-word c = search needs
+mul-print-word : tie.Need-mul-print-word Inv-loop μ-loop
+mul-print-word c = search needs
 
 -- src/main.rt:266:18
-array-read-word : tie.Need-array-read-word Inv-loop μ-loop
-array-read-word c = search needs
+array-read-print-word : tie.Need-array-read-print-word Inv-loop μ-loop
+array-read-print-word c = search needs
 
 -- src/main.rt:266:13
-word-requires-2 : tie.Need-word-requires-2 Inv-loop μ-loop
-word-requires-2 c κs = search needs
+print-word-requires-2 : tie.Need-print-word-requires-2 Inv-loop μ-loop
+print-word-requires-2 c κs = search needs
 
 -- src/main.rt:268:9
 add-i : tie.Need-add-i Inv-loop μ-loop
@@ -70,11 +70,11 @@ print-line-spec =
     μ-loop
     slice-aggregate-write-all
     write-all-requires
-    word-requires
+    print-word-requires
     loop-holds
-    mul-word
-    array-read-word
-    word-requires-2
+    mul-print-word
+    array-read-print-word
+    print-word-requires-2
     add-i
     loop-less
     loop-again
