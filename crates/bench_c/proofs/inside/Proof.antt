@@ -1,15 +1,10 @@
--- `route_c::inside` meets its contract. Assumes nothing.
-use mathlib.Core.Path.{_≡_, sym, subst}
-use mathlib.Core.Bool.{true, false}
+-- `bench_c::inside` meets its contract. Assumes nothing.
 use native.Mathlib.Omega.{arith}
-use lib.Dec.{T}
 use borrow.Author.Tests.{ltb-true}
 use borrow.Author.Needs.{needs}
-use Rattle.route_c.proofs.inside.Statement.{statement}
-use Rattle.route_c.proofs.inside.Tie as tie
-
-never : false ≡ true → ⊥
-never e = subst T (sym e) tt
+use Rattle.bench_c.proofs.Tested.{never}
+use Rattle.bench_c.proofs.inside.Statement.{statement}
+use Rattle.bench_c.proofs.inside.Tie as tie
 
 wide-requires : tie.Need-wide-requires
 wide-requires c κs = search needs

@@ -1,15 +1,9 @@
--- `route_c::ready` meets its contract. Assumes nothing.
-use mathlib.Core.Path.{_≡_, sym, subst}
-use mathlib.Core.Bool.{true, false}
-use native.Mathlib.Nat.{mul-le-mul}
+-- `bench_c::ready` meets its contract. Assumes nothing.
 use native.Mathlib.Omega.{arith}
-use lib.Dec.{T}
 use borrow.Author.Needs.{needs}
-use Rattle.route_c.proofs.ready.Statement.{statement}
-use Rattle.route_c.proofs.ready.Tie as tie
-
-never : false ≡ true → ⊥
-never e = subst T (sym e) tt
+use Rattle.bench_c.proofs.Tested.{never, product}
+use Rattle.bench_c.proofs.ready.Statement.{statement}
+use Rattle.bench_c.proofs.ready.Tie as tie
 
 returns : tie.Need-returns
 returns c = λ t. absurd (never t)
@@ -18,7 +12,7 @@ returns-2 : tie.Need-returns-2
 returns-2 c = λ t. absurd (never t)
 
 mul-n : tie.Need-mul-n
-mul-n c = omega (arith, mul-le-mul (c .before .if1 .left) (c .if2 .left))
+mul-n c = omega (arith, product (c .before .if1 .left) (c .if2 .left))
 
 returns-3 : tie.Need-returns-3
 returns-3 c = λ t. absurd (never t)

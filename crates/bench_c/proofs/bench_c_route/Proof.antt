@@ -1,9 +1,9 @@
--- `route_c::route_c_route` calls the search as it must be called. Assumes nothing.
+-- `bench_c::bench_c_route` calls the search as it must be called. Assumes nothing.
 use borrow.Author.Tests.{not-false}
-use Rattle.route_c.proofs.Tested.{window, held}
+use Rattle.bench_c.proofs.Tested.{window, held}
 use borrow.Author.Needs.{needs}
-use Rattle.route_c.proofs.route_c_route.Statement.{statement}
-use Rattle.route_c.proofs.route_c_route.Tie as tie
+use Rattle.bench_c.proofs.bench_c_route.Statement.{statement}
+use Rattle.bench_c.proofs.bench_c_route.Tie as tie
 
 ready-requires : tie.Need-ready-requires
 ready-requires c κs = search needs
@@ -49,8 +49,8 @@ same-length-3 c = search needs
 returns-4 : tie.Need-returns-4
 returns-4 c = search needs
 
-pub route-c-route-spec : {M : Type 1} → statement M
-route-c-route-spec =
+pub bench-c-route-spec : {M : Type 1} → statement M
+bench-c-route-spec =
     tie.close
     (tie.spec
     ready-requires

@@ -1,15 +1,15 @@
--- `route_c::route_c_repeat` calls the search as it must be called. Assumes nothing.
+-- `bench_c::bench_c_repeat` calls the search as it must be called. Assumes nothing.
 use Prim.Native.Nat.{_*_}
 use native.Mathlib.Omega.{arith}
 use lib.ListN.{length}
 use denote.Ref.{now}
 use borrow.Author.Tests.{not-false}
 use Rattle.route.proofs.Zeros.{blank-after}
-use Rattle.route_c.specs.Ready.{Ready}
-use Rattle.route_c.proofs.Tested.{few, window, held}
+use Rattle.bench_c.specs.Ready.{Ready}
+use Rattle.bench_c.proofs.Tested.{product, window, held}
 use borrow.Author.Needs.{needs}
-use Rattle.route_c.proofs.route_c_repeat.Statement.{statement}
-use Rattle.route_c.proofs.route_c_repeat.Tie as tie
+use Rattle.bench_c.proofs.bench_c_repeat.Statement.{statement}
+use Rattle.bench_c.proofs.bench_c_repeat.Tie as tie
 
 abbrev start : tie.Else3 → tie.Start
 start e = e .before .before .before .before .before .before .before .before .before .before
@@ -36,7 +36,7 @@ returns-3 : tie.Need-returns-3
 returns-3 c = search needs
 
 mul-n : tie.Need-mul-n
-mul-n c = omega (arith, few (tested c))
+mul-n c = omega (arith, product (tested c .wide) (tested c .high))
 
 clear-requires : tie.Need-clear-requires
 clear-requires c κs = tested (c .before) .parents-long
@@ -72,8 +72,8 @@ same-length-3 c = search needs
 returns-4 : tie.Need-returns-4
 returns-4 c = search needs
 
-pub route-c-repeat-spec : {M : Type 1} → statement M
-route-c-repeat-spec =
+pub bench-c-repeat-spec : {M : Type 1} → statement M
+bench-c-repeat-spec =
     tie.close
     (tie.spec
     ready-requires

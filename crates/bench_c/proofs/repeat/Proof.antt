@@ -1,12 +1,12 @@
--- `route_c::repeat` calls the search as it must be called. The loop's invariant: the working areas are as they came. Assumes nothing.
+-- `bench_c::repeat` calls the search as it must be called. The loop's invariant: the working areas are as they came. Assumes nothing.
 use mathlib.Core.Path.{_≡_, refl, sym, ap, subst, _∙_}
 use Prim.Native.Nat.{_*_, _-_, _≤_}
 use native.Mathlib.Omega.{arith}
 use lib.ListN.{length}
 use borrow.Author.Needs.{needs}
 use Rattle.search.specs.Places.{Blank}
-use Rattle.route_c.proofs.repeat.Statement.{statement}
-use Rattle.route_c.proofs.repeat.Tie as tie
+use Rattle.bench_c.proofs.repeat.Statement.{statement}
+use Rattle.bench_c.proofs.repeat.Tie as tie
 
 abbrev Inv-loop : tie.InvT-loop
 Inv-loop marks w h parents₀ queue₀ out₀ start end times found₀ i₀ parents queue out found i = (i ≤ times) × (parents ≡ parents₀) × (queue ≡ queue₀) × (length out ≡ length out₀)
