@@ -321,7 +321,16 @@ pub extern "C" fn bench_c_marks(
     };
     let buildings = plan_of(plan);
     marks::mark_centers(
-        width, height, cells, words, window, mover, buildings, base, planned, marks,
+        width,
+        height,
+        cells,
+        words,
+        window,
+        mover,
+        buildings,
+        base,
+        planned,
+        marks,
     );
     true
 }

@@ -15,7 +15,7 @@ start c = c .before .before .before .before .before .before .before
 -- what the test shows where it is passed
 tested : (c : tie.Else1)
     → let a = start c .args in
-      Markable (a .width) (a .height) (length (now (a .cells))) (length (now (a .words))) (a .left) (a .top) (a .w) (a .h) (length (now (a .base))) (length (now (a .planned))) (length (now (a .marks)))
+    Markable (a .width) (a .height) (length (now (a .cells))) (length (now (a .words))) (a .left) (a .top) (a .w) (a .h) (length (now (a .base))) (length (now (a .planned))) (length (now (a .marks)))
 tested c = c .before .markable .ensures (not-false _ (c .if1 .left))
 
 markable-requires : tie.Need-markable-requires
