@@ -1,5 +1,6 @@
-// Times the search against the original's `route`, in one process: processor nanoseconds a center, and how many times as fast.
-// Both must give the same route, and the working areas must end as zeros. See bench/run.sh.
+// Times the search against the original's `route`, and the marks against its stamps and `blocked_centers`, in one process:
+// processor nanoseconds a center, and how many times as fast. Both must give the same route and the same marks, and the
+// working areas must end as zeros. See bench/run.sh.
 #![allow(dead_code)]
 use std::collections::VecDeque;
 use std::hint::black_box;
@@ -12,16 +13,60 @@ struct Time {
     nanos: i64,
 }
 
+// What the original's functions take, with the fields that they read and the sizes that they have there.
+#[derive(Clone, Copy)]
+struct PixelRect {
+    left: i32,
+    top: i32,
+    right: i32,
+    bottom: i32,
+}
+
+#[derive(Clone, Copy)]
+struct CollisionBounds {
+    left: u32,
+    top: u32,
+    right: u32,
+    bottom: u32,
+}
+
+struct TerrainCell {
+    walkable: bool,
+    terrain_buildable: bool,
+    elevation: u8,
+    ramp: bool,
+}
+
+struct TerrainGrid {
+    width: u32,
+    cells: Vec<TerrainCell>,
+}
+
+impl TerrainGrid {
+    fn width(&self) -> u32 {
+        self.width
+    }
+
+    fn cells(&self) -> &[TerrainCell] {
+        &self.cells
+    }
+}
+
 extern "C" {
     fn clock_gettime(clock: i32, t: *mut Time) -> i32;
-    fn route_c_route(
+    fn bench_c_route(
         marks: *const u8, marks_len: usize, w: usize, h: usize, parents: *mut u32, parents_len: usize, queue: *mut u32, queue_len: usize,
         out: *mut u32, out_len: usize, start_x: u32, start_y: u32, end_x: u32, end_y: u32,
     ) -> usize;
-    fn route_c_repeat(
+    fn bench_c_repeat(
         marks: *const u8, marks_len: usize, w: usize, h: usize, parents: *mut u32, parents_len: usize, queue: *mut u32, queue_len: usize,
         out: *mut u32, out_len: usize, start_x: u32, start_y: u32, end_x: u32, end_y: u32, times: usize,
     ) -> usize;
+    fn bench_c_marks(
+        width: u32, height: u32, cells: *const u8, cells_len: usize, words: *const i32, words_len: usize, left: usize, top: usize, w: usize,
+        h: usize, extent: u32, plan: *const u32, plan_len: usize, base: *mut u32, base_len: usize, planned: *mut u32, planned_len: usize,
+        marks: *mut u8, marks_len: usize,
+    ) -> bool;
 }
 
 // Processor time of this thread, which other work on the machine does not lengthen much.
@@ -114,7 +159,94 @@ fn case(kind: &str, n: usize) -> Case {
     c
 }
 
-fn main() {
+// A map of `side` cells a side, a tenth of them unwalkable, with obstacles and a plan, and a window of `n` centers a side in its middle.
+struct Site {
+    side: usize,
+    cells: Vec<u8>,
+    grid: TerrainGrid,
+    obstacles: Vec<PixelRect>,
+    buildings: Vec<PixelRect>,
+    plan: Vec<u32>,
+    window: PixelRect,
+    mover: CollisionBounds,
+}
+
+fn site(side: usize, n: usize, obstacles: usize, extent: u32) -> Site {
+    let mut random = Random(88172645463325252);
+    let cells: Vec<u8> = (0..side * side).map(|_| if random.below(10) == 0 { 8 } else { 24 }).collect();
+    let grid = TerrainGrid {
+        width: side as u32,
+        cells: cells.iter().map(|c| TerrainCell { walkable: *c >= 16, terrain_buildable: true, elevation: 0, ramp: false }).collect(),
+    };
+    let obstacles = (0..obstacles)
+        .map(|_| {
+            let (left, top) = (random.below(8 * side) as i32, random.below(8 * side) as i32);
+            PixelRect { left, top, right: left + 16, bottom: top + 16 }
+        })
+        .collect();
+    let corner = (8 * side - n) / 2;
+    let window = PixelRect { left: corner as i32, top: corner as i32, right: (corner + n) as i32, bottom: (corner + n) as i32 };
+    // 32 buildings of 2 by 2 tiles in a row, from the window's corner on.
+    let (mut plan, mut buildings) = (Vec::new(), Vec::new());
+    for i in 0..32 {
+        let tile = corner / 32;
+        plan.extend([(tile + i) as u32, tile as u32, 2, 2, 24, 24, 23, 23]);
+        let (x, y) = (32 * (tile + i) as i32 + 32, 32 * tile as i32 + 32);
+        buildings.push(PixelRect { left: x - 24, top: y - 24, right: x + 24, bottom: y + 24 });
+    }
+    let mover = CollisionBounds { left: extent, top: extent, right: extent, bottom: extent };
+    Site { side, cells, grid, obstacles, buildings, plan, window, mover }
+}
+
+// What the original does between its checks and its searches.
+fn original_marks(s: &Site, n: usize) -> (Vec<bool>, Vec<bool>) {
+    let map = 8 * s.side as i64;
+    let mut base = DifferenceGrid::new(n, n);
+    stamp_terrain_blockers(&s.grid, s.window, s.mover, &mut base);
+    for obstacle in &s.obstacles {
+        stamp_expanded(*obstacle, s.window, s.mover, &mut base);
+    }
+    let base = base.finish();
+    let mut plan = DifferenceGrid::new(n, n);
+    for building in &s.buildings {
+        stamp_expanded(*building, s.window, s.mover, &mut plan);
+    }
+    let plan = plan.finish();
+    let before = blocked_centers(&base, n, n, s.window, map, map, s.mover, None);
+    let after = blocked_centers(&base, n, n, s.window, map, map, s.mover, Some(&plan));
+    (before, after)
+}
+
+fn time_marks() {
+    println!("{:<12}{:>6}{:>8}{:>11}{:>14}{:>14}", "map", "side", "mover", "obstacles", "original", "mark_centers");
+    for (side, n) in [(64usize, 40usize), (1024, 40), (256, 256), (1024, 256), (128, 1024), (1024, 1024)] {
+        for extent in [0u32, 5] {
+            for count in [0usize, 1000] {
+                let s = site(side, n, count, extent);
+                let words: Vec<i32> = s.obstacles.iter().flat_map(|o| [o.left, o.top, o.right, o.bottom]).collect();
+                let room = (n + 1) * (n + 1);
+                let (mut base, mut planned, mut marks) = (vec![7u32; room], vec![9u32; room], vec![3u8; 2 * n * n]);
+                let corner = s.window.left as usize;
+                let mut once = || unsafe {
+                    bench_c_marks(
+                        side as u32, side as u32, s.cells.as_ptr(), s.cells.len(), words.as_ptr(), words.len(), corner, corner, n, n, extent,
+                        s.plan.as_ptr(), s.plan.len(), base.as_mut_ptr(), room, planned.as_mut_ptr(), room, marks.as_mut_ptr(), 2 * n * n,
+                    )
+                };
+                assert!(once());
+                let times = (4_000_000 / (n * n + side * side)).clamp(3, 1000);
+                let theirs = least(times, |k| for _ in 0..k { black_box(original_marks(black_box(&s), n)); });
+                let ours = least(times, |k| for _ in 0..k { black_box(once()); });
+                let (before, after) = original_marks(&s, n);
+                assert!(before.iter().chain(&after).zip(&marks).all(|(b, m)| *b as u8 == *m), "{side} {n} {extent} {count}");
+                assert!(base.iter().chain(&planned).all(|x| *x == 0), "{side} {n} {extent} {count}");
+                println!("{:<12}{:>6}{:>8}{:>11}{:>11.3} ms{:>11.3} ms{:>7.1}x", format!("{side} cells"), n, extent, count, theirs / 1e6, ours / 1e6, theirs / ours);
+            }
+        }
+    }
+}
+
+fn time_routes() {
     println!("{:<16}{:>6}{:>12}{:>12}{:>8}{:>12}{:>8}", "case", "side", "original", "route", "", "find_route", "");
     let kinds = ["open", "5% blocked", "30% blocked", "rectangles", "maze of rows", "maze of columns", "walled-in end", "blocked end", "ten away"];
     for kind in kinds {
@@ -126,7 +258,7 @@ fn main() {
             let (sx, sy, ex, ey) = ((c.start % n) as u32, (c.start / n) as u32, (c.end % n) as u32, (c.end / n) as u32);
             let wanted = route(&c.blocked, n, n, c.start, c.end).unwrap_or_default();
             let mut once = || unsafe {
-                route_c_route(marks.as_ptr(), cells, n, n, parents.as_mut_ptr(), cells, queue.as_mut_ptr(), cells, out.as_mut_ptr(), cells, sx, sy, ex, ey)
+                bench_c_route(marks.as_ptr(), cells, n, n, parents.as_mut_ptr(), cells, queue.as_mut_ptr(), cells, out.as_mut_ptr(), cells, sx, sy, ex, ey)
             };
             assert_eq!(once(), wanted.len(), "{kind} {n}");
             let times = (4_000_000 / cells).clamp(3, 1000);
@@ -136,7 +268,7 @@ fn main() {
             assert_eq!(&out[..wanted.len()], &words[..], "{kind} {n}");
             let many = times.max(100);
             let again = least(many, |k| unsafe {
-                black_box(route_c_repeat(marks.as_ptr(), cells, n, n, parents.as_mut_ptr(), cells, queue.as_mut_ptr(), cells, out.as_mut_ptr(), cells, sx, sy, ex, ey, k));
+                black_box(bench_c_repeat(marks.as_ptr(), cells, n, n, parents.as_mut_ptr(), cells, queue.as_mut_ptr(), cells, out.as_mut_ptr(), cells, sx, sy, ex, ey, k));
             });
             assert_eq!(&out[..wanted.len()], &words[..], "{kind} {n}");
             assert!(parents.iter().chain(&queue).all(|x| *x == 0), "{kind} {n}");
@@ -144,4 +276,10 @@ fn main() {
             println!("{:<16}{:>6}{:>12.3}{:>12.3}{:>7.1}x{:>12.3}{:>7.1}x", kind, n, theirs / a, ours / a, theirs / ours, again / a, theirs / again);
         }
     }
+}
+
+fn main() {
+    time_marks();
+    println!();
+    time_routes();
 }

@@ -2,14 +2,20 @@
 use mathlib.Core.Path.{_≡_}
 use mathlib.Core.Bool.{Bool, true, false}
 use mathlib.Core.List.{List, _++_, map}
-use Prim.Native.Nat.{ℕ}
+use Prim.Native.Nat.{ℕ, _^_, _<_}
 use lib.ListN.{length, drop}
 use Rattle.model.specs.declared.PixelPosition.{PixelPosition}
 use Rattle.model.specs.Steps.{Joined, pointWord}
 use Rattle.search.specs.Places.{spot}
 use Rattle.search.specs.Search.{Trail}
+use Rattle.route.specs.declared.Hop.{Hop}
 use Rattle.route.specs.declared.Way.{Way}
 use Rattle.route.specs.declared.Way.the-variants.{Found, NoWay}
+
+-- A hop of fewer than 2 ^ 62 places.
+pub record Short (h : Hop) : Type 0 where
+  pub up : h .up < 2 ^ 62
+  pub down : h .down < 2 ^ 62
 
 -- Following the parents from e ends at s after n places.
 pub record Tracked (parents : List ℕ) (s e n : ℕ) : Type 0 where

@@ -4,14 +4,14 @@
 ghost use mathlib.Core.Path.{_≡_};
 ghost use mathlib.Core.Bool.{true};
 ghost use mathlib.Core.List.{List};
-ghost use Prim.Native.Nat.{ℕ, _*_, _<_, _≤_};
+ghost use Prim.Native.Nat.{ℕ, _+_, _*_, _^_, _<_, _≤_};
 ghost use lib.ListN.{length, replicate};
 ghost use Rattle.model.specs.Steps.{pointWord};
 ghost use Rattle.model.specs.Areas.{cleared};
 ghost use Rattle.marks.specs.Marks.{Unmarked};
 ghost use Rattle.search.specs.Places.{center, spot, Areas, Blank};
 ghost use Rattle.search.specs.Search.{Listed, Trail};
-ghost use Rattle.route.specs.Trails.{Tracked, Written, Told, Opens};
+ghost use Rattle.route.specs.Trails.{Short, Tracked, Written, Told, Opens};
 ghost use Rattle.route.specs.Answer.{Says, Clear, Window, Inside, Lent, Searched, Asked};
 use model::PixelPosition;
 use search::wide;
@@ -21,6 +21,33 @@ pub enum Way {
     NoWay,
 }
 
+// From one place to another: so many places up, or so many down.
+struct Hop {
+    up: usize,
+    down: usize,
+}
+
+// The hop from place `at` to its parent, whose word is `back`. It is the last hop again where that leads there: the next place
+// is then known without waiting for the word, and a long way back costs no wait at each of its places.
+fn hop_back(last: Hop, at: usize, back: usize) -> Hop
+    requires { ⌜ Short last × (at < 2 ^ 62) × (1 ≤ back) × (back < 4294967296) ⌝ }
+    ensures { λ r. ⌜ Short r × (at + r .up + 1 ≡ back + r .down) ⌝ }
+{
+    if back + last.down == at + last.up + 1 {
+        return last;
+    }
+    if back > at {
+        return Hop {
+            up: back - 1 - at,
+            down: 0,
+        };
+    }
+    Hop {
+        up: 0,
+        down: at + 1 - back,
+    }
+}
+
 // The number of places that the parents pass from `end` back to `start`.
 fn trail_length(parents: &[u32], start: usize, end: usize) -> usize
     requires { ⌜ ((ps : List ℕ) × Trail (now parents) start end ps × (length ps ≤ length (now parents))) ⌝ }
@@ -28,8 +55,10 @@ fn trail_length(parents: &[u32], start: usize, end: usize) -> usize
 {
     let mut n = 1;
     let mut at = end;
+    let mut hop = Hop { up: 0, down: 0 };
     while at != start {
-        at = wide(parents[at]) - 1;
+        hop = hop_back(hop, at, wide(parents[at]));
+        at = at + hop.up - hop.down;
         n += 1;
     }
     n
@@ -62,10 +91,12 @@ fn write_route(
 {
     let mut i = n;
     let mut p = end;
+    let mut hop = Hop { up: 0, down: 0 };
     while p != start {
         i -= 1;
         out[i] = point(left, top, w, h, p);
-        p = wide(parents[p]) - 1;
+        hop = hop_back(hop, p, wide(parents[p]));
+        p = p + hop.up - hop.down;
     }
     out[0] = point(left, top, w, h, start);
 }
