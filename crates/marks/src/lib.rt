@@ -137,9 +137,9 @@ pub fn clear_marks(marks: &mut [u8], n: usize)
     requires { ⌜ n ≤ length (now marks) ⌝ }
     ensures { λ _. ⌜ now (marks .exit) ≡ cleared n (now (marks .entry)) ⌝ }
 {
-    let mut i = 0;
-    while i < n {
-        marks[i] = 0;
-        i += 1;
+    let mut k = 0;
+    while k < n {
+        marks[k] = 0;
+        k += 1;
     }
 }

@@ -6,7 +6,7 @@ use Prim.Native.Nat.{ℕ, suc, _+_, _-_, _*_, _≤_, _<_}
 use native.Mathlib.Omega.{arith}
 use native.Mathlib.Numerals.{add-one}
 use lib.IntN.{ℤ, pos, negsuc}
-use lib.ListN.{length, getD, set, take, length-set, length-take, length-append}
+use lib.ListN.{length, getD, set, take, length-set, length-take}
 use lib.Seq.{take-suc}
 use Rattle.model.specs.declared.WallBuilding.{WallBuilding}
 use Rattle.model.specs.declared.WallPlacement.{WallPlacement}
