@@ -39,14 +39,8 @@ fn assess_building(
         issues,
         at,
     );
-    let on_obstacles = placement_issues::overlaps_obstacles(
-        words,
-        footprint,
-        building,
-        issues,
-        on_ground,
-    );
-    let end = placement_issues::overlaps_buildings(plan, footprint, building, issues, on_obstacles);
+    let next = placement_issues::overlaps_obstacles(words, footprint, building, issues, on_ground);
+    let end = placement_issues::overlaps_buildings(plan, footprint, building, issues, next);
     WallPlacement {
         footprint,
         collision,
