@@ -3,7 +3,6 @@ use mathlib.Core.Path.{_≡_, refl, sym, ap, subst, _∙_}
 use mathlib.Core.List.{List}
 use Prim.Native.Nat.{ℕ, _*_, _≤_}
 use native.Mathlib.Omega.{arith}
-use lib.IntN.{ℤ}
 use lib.ListN.{length, take, drop, length-take}
 use lib.Seq.{take-at}
 use Rattle.model.specs.declared.Outcome.{Outcome}
@@ -11,7 +10,6 @@ use Rattle.model.specs.declared.Outcome.the-variants.{Accepted, Refused}
 use Rattle.model.specs.declared.PackedQuery.{PackedQuery}
 use Rattle.model.specs.declared.PackedReply.{PackedReply}
 use Rattle.model.specs.declared.WallError.{WallError}
-use Rattle.model.specs.declared.WallQuery.{WallQuery}
 use Rattle.model.specs.declared.WallReply.{WallReply}
 use Rattle.model.specs.Ground.{Ground, ground}
 use Rattle.model.specs.Refusal.{given}
