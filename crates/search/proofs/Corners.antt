@@ -1,7 +1,6 @@
 -- The corner rule, and which steps lead from a place. Assumes nothing.
 use mathlib.Core.Path.{_≡_, refl, ap, sym, subst, subst₂, _∙_}
 use mathlib.Core.List.{List, [], _∷_}
-use mathlib.Core.Logic.{_⊎_, inl, inr}
 use Prim.Native.Nat.{ℕ, zero, suc, _+_, _*_, _<_, _≤_}
 use native.Mathlib.Omega.{arith}
 use lib.ListN.{getD}
@@ -9,7 +8,7 @@ use Rattle.model.specs.declared.PixelPosition.{PixelPosition}
 use Rattle.model.specs.Steps.{steps, across, down, Step}
 use Rattle.model.proofs.Chains.{step-by-rule}
 use Rattle.marks.specs.Marks.{Unmarked}
-use Rattle.search.specs.Places.{center, ahead, Around, Allows, Hemmed, sideX, sideY}
+use Rattle.search.specs.Places.{center, ahead, Around, Allows, sideX, sideY}
 use Rattle.search.specs.Search.{Bars}
 use Rattle.search.proofs.Centers.{place-in, center-place}
 use Rattle.search.proofs.Neighbours.{landed}
@@ -124,32 +123,3 @@ bars-of marks w h p x y placed here seen allows = record {
     there k q t =
         let e : ahead w p (getD steps k []) ≡ q .y * w + q .x = omega (arith, lands k q t) in
         ap (center w) e ∙ center-place w (q .x) (q .y) (t .to .0)
-
--- where two opposite sides are barred, so is every diagonal step
-module _ {around bars : List ℕ} (allows : Allows around bars) (hemmed : Hemmed bars) where
-  open-side : (j : ℕ) → j < 4 → getD around j 0 ≡ 0 → getD bars j 0 ≡ 0
-  open-side j l z = allows .joins j (omega arith) z (λ m. absurd (omega (arith, m, l)))
-
-  -- one side along x and one along y can't both be open
-  not-both : (i j : ℕ) → (i ≡ 0) ⊎ (i ≡ 2) → (j ≡ 1) ⊎ (j ≡ 3) → getD around i 0 ≡ 0 → getD around j 0 ≡ 0 → ⊥
-  not-both i j a b x y = by hemmed a b
-    where
-      by : Hemmed bars → (i ≡ 0) ⊎ (i ≡ 2) → (j ≡ 1) ⊎ (j ≡ 3) → ⊥
-      by (inl h) (inl e) _ = omega (arith, h .0, open-side 0 (omega arith) (rw e at x))
-      by (inl h) (inr e) _ = omega (arith, h .1, open-side 2 (omega arith) (rw e at x))
-      by (inr h) _ (inl e) = omega (arith, h .0, open-side 1 (omega arith) (rw e at y))
-      by (inr h) _ (inr e) = omega (arith, h .1, open-side 3 (omega arith) (rw e at y))
-
-  shut : (k : ℕ) → 4 ≤ k → k < 8 → getD bars k 0 ≡ 0 → ⊥
-  shut zero m l z = absurd (omega arith)
-  shut (suc zero) m l z = absurd (omega arith)
-  shut (suc (suc zero)) m l z = absurd (omega arith)
-  shut (suc (suc (suc zero))) m l z = absurd (omega arith)
-  shut (suc (suc (suc (suc zero)))) m l z = let s = allows .opens 4 l z .1 m in not-both 0 1 (inl refl) (inl refl) (s .0) (s .1)
-  shut (suc (suc (suc (suc (suc zero))))) m l z = let s = allows .opens 5 l z .1 m in not-both 2 1 (inr refl) (inl refl) (s .0) (s .1)
-  shut (suc (suc (suc (suc (suc (suc zero)))))) m l z = let s = allows .opens 6 l z .1 m in not-both 2 3 (inr refl) (inr refl) (s .0) (s .1)
-  shut (suc (suc (suc (suc (suc (suc (suc zero))))))) m l z = let s = allows .opens 7 l z .1 m in not-both 0 3 (inl refl) (inr refl) (s .0) (s .1)
-  shut (suc (suc (suc (suc (suc (suc (suc (suc k)))))))) m l z = absurd (omega arith)
-
-  pub diagonals-barred : (k : ℕ) → 4 ≤ k → k < 8 → 0 < getD bars k 0
-  diagonals-barred k m l = let z : getD bars k 0 ≡ 0 → ⊥ = shut k m l in omega arith

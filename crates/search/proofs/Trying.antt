@@ -1,7 +1,7 @@
 -- What one step that is tried does to the search's state, and how such steps join. Assumes nothing.
 use mathlib.Core.Path.{_≡_, refl, ap, sym, subst, _∙_}
 use mathlib.Core.List.{List, []}
-use Prim.Native.Nat.{ℕ, _+_, _<_, _≤_}
+use Prim.Native.Nat.{ℕ, _+_, _<_}
 use native.Mathlib.Omega.{arith}
 use native.Mathlib.Decide.{ℕ-discrete}
 use lib.ListN.{length, getD, set}
@@ -82,16 +82,3 @@ works-then a b = record {
   kept = λ i l. b .kept i (omega (arith, a .grown)) ∙ a .kept i l;
   goes-on = λ s e X. b .goes-on s e (a .goes-on s e X);
 }
-
--- as far as a step that is known by another number
-pub works-to : {free : ℕ → ℕ → Type 0} {w head tail k tail′ j l : ℕ} {queue parents queue′ parents′ : List ℕ} → j ≡ l → Works free w head queue parents tail k queue′ parents′ tail′ j → Works free w head queue parents tail k queue′ parents′ tail′ l
-works-to {free} {w} {head} {tail} {k} {tail′} {queue = queue} {parents = parents} {queue′ = queue′} {parents′ = parents′} e W = subst (λ (n : ℕ). Works free w head queue parents tail k queue′ parents′ tail′ n) e W
-
--- where every diagonal step is barred, none need be tried
-pub works-barred : {free : ℕ → ℕ → Type 0} {w n p head tail : ℕ} (queue parents bars : List ℕ) → Growing parents queue tail → getD queue head 0 ≡ p → Bars free w n p bars
-    → ((k : ℕ) → 4 ≤ k → k < 8 → 0 < getD bars k 0) → Works free w head queue parents tail 4 queue parents tail 8
-works-barred {free} {w} {n} {p} {head} {tail} queue parents bars grows at-head allowed shut =
-    works-then (none 4 (omega arith) (omega arith)) (works-then (none 5 (omega arith) (omega arith)) (works-then (none 6 (omega arith) (omega arith)) (none 7 (omega arith) (omega arith))))
-  where
-    none : (k : ℕ) → 4 ≤ k → k < 8 → Works free w head queue parents tail k queue parents tail (k + 1)
-    none k from small = old-place queue parents bars grows at-head allowed k small (omega (arith, shut k from small))

@@ -1,7 +1,6 @@
 -- Places, centers and what surrounds them. A place is a center's row times the window's width, and its column. Assumes nothing.
 use mathlib.Core.Path.{_≡_}
 use mathlib.Core.List.{List, [], _∷_}
-use mathlib.Core.Logic.{_⊎_}
 use Prim.Native.Nat.{ℕ, _+_, _*_, _-_, _/_, _%_, _<_, _≤_}
 use lib.ListN.{length, getD}
 use lib.IntN.{ℤ, pos}
@@ -72,7 +71,3 @@ pub record Allows (around bars : List ℕ) : Type 0 where
   pub opens : (k : ℕ) → k < 8 → getD bars k 0 ≡ 0 → (getD around k 0 ≡ 0) × (4 ≤ k → (getD around (sideX k) 0 ≡ 0) × (getD around (sideY k) 0 ≡ 0))
   pub joins : (k : ℕ) → k < 8 → getD around k 0 ≡ 0 → (4 ≤ k → (getD around (sideX k) 0 ≡ 0) × (getD around (sideY k) 0 ≡ 0)) → getD bars k 0 ≡ 0
   pub small : (k : ℕ) → k < 8 → getD bars k 0 ≤ 765
-
--- two opposite sides are barred
-abbrev pub Hemmed : List ℕ → Type 0
-Hemmed bars = ((0 < getD bars 0 0) × (0 < getD bars 2 0)) ⊎ ((0 < getD bars 1 0) × (0 < getD bars 3 0))

@@ -84,10 +84,6 @@ pub record Bars (free : ℕ → ℕ → Type 0) (w n p : ℕ) (bars : List ℕ) 
   pub only : (k : ℕ) (q : PixelPosition) → Step free k (center w p) q → getD bars k 0 ≡ 0
   pub small : (k : ℕ) → k < 8 → getD bars k 0 ≤ 765
 
--- every step leads from place p to a place of the window, of which there are n
-abbrev pub Stays : ℕ → ℕ → ℕ → Type 0
-Stays w n p = (k : ℕ) → k < 8 → (w + 1 ≤ p + (across k + down k * w)) × (ahead w p (getD steps k []) < n)
-
 -- The lists of a search whose queue ends at `tail`: as many places have a parent.
 pub record Growing (parents queue : List ℕ) (tail : ℕ) : Type 0 where
   pub limit : length parents ≤ 1048576

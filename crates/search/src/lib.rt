@@ -4,13 +4,12 @@
 // parent is 0 where a center has not been found, and its parent's place and 1 else. Each center enters the queue at
 // most once, so the queue never wraps.
 ghost use mathlib.Core.Path.{_≡_};
-ghost use mathlib.Core.Bool.{true};
 ghost use Prim.Native.Nat.{ℕ, _+_, _*_, _/_, _%_, _<_, _≤_};
 ghost use lib.ListN.{length, getD};
 ghost use Rattle.model.specs.Steps.{raised};
 ghost use Rattle.marks.specs.Marks.{Unmarked};
-ghost use Rattle.search.specs.Places.{Areas, Blank, Inner, Small, eastward, southward, ahead, Seen, Around, Allows, Hemmed};
-ghost use Rattle.search.specs.Search.{noted, Growing, Tried, Works, Bars, Stays, Sought};
+ghost use Rattle.search.specs.Places.{Areas, Blank, Inner, Small, eastward, southward, ahead, Seen, Around, Allows};
+ghost use Rattle.search.specs.Search.{noted, Growing, Tried, Works, Sought};
 
 // Whether a search found the end, and how many entries of the queue it used.
 pub struct Ended {
@@ -205,54 +204,7 @@ fn expand_edge(
     end
 }
 
-// Tries four steps of the queue's entry `head`, at place p and not at the window's edge, from step `first` on in their order.
-// Returns the queue's new end.
-fn try_four(
-    marks: &[u8],
-    w: usize,
-    h: usize,
-    parents: &mut [u32],
-    queue: &mut [u32],
-    head: usize,
-    tail: usize,
-    p: usize,
-    bars: [usize; 8],
-    first: usize,
-) -> usize
-    requires { ⌜ Areas w h (now marks) (now parents) (now queue) ⌝ }
-    requires { ⌜ (head < tail) × (noted (now parents) ≡ tail) × (getD (now queue) head 0 ≡ p) ⌝ }
-    requires { ⌜ (w ≤ 1048576) × (p < w * h) × (first ≤ 4) ⌝ }
-    requires { ⌜ Bars (Unmarked (now marks) w h) w (w * h) p bars × Stays w (w * h) p ⌝ }
-    ensures { λ r. ⌜ Works (Unmarked (now (marks .entry)) w h) w head (now (queue .entry)) (now (parents .entry)) tail first (now (queue .exit)) (now (parents .exit)) r (first + 4) ⌝ }
-{
-    let mut end = tail;
-    for i in 0..4 {
-        let k = first + i;
-        let d = STEPS[k];
-        let bar = bars[k];
-        end = try_step(w, parents, queue, end, p, d, bar);
-    }
-    end
-}
-
-// Whether two opposite sides are barred, and with them every diagonal step.
-fn hemmed(bars: [usize; 8]) -> bool
-    ensures { λ r. ⌜ (r ≡ true → Hemmed bars) ⌝ }
-{
-    if bars[0] != 0 {
-        if bars[2] != 0 {
-            return true;
-        }
-    }
-    if bars[1] != 0 {
-        if bars[3] != 0 {
-            return true;
-        }
-    }
-    false
-}
-
-// Tries the eight steps of an entry that is not at the window's edge. In a corridor the diagonal ones need no trial.
+// The same for an entry that is not at the window's edge.
 fn expand_inner(
     marks: &[u8],
     w: usize,
@@ -272,11 +224,13 @@ fn expand_inner(
     ensures { λ r. ⌜ Works (Unmarked (now (marks .entry)) w h) w head (now (queue .entry)) (now (parents .entry)) tail 0 (now (queue .exit)) (now (parents .exit)) r 8 ⌝ }
 {
     let bars = barred(around_inner(marks, w, h, p, x, y));
-    let end = try_four(marks, w, h, parents, queue, head, tail, p, bars, 0);
-    if hemmed(bars) {
-        return end;
+    let mut end = tail;
+    for k in 0..8 {
+        let d = STEPS[k];
+        let bar = bars[k];
+        end = try_step(w, parents, queue, end, p, d, bar);
     }
-    try_four(marks, w, h, parents, queue, head, end, p, bars, 4)
+    end
 }
 
 // Tries the eight steps of the queue's entry `head` in their order. Returns the queue's new end.
