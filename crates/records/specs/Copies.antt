@@ -7,9 +7,13 @@ use lib.ListN.{length, set}
 use Rattle.model.specs.declared.PixelRect.{PixelRect}
 use Rattle.model.specs.declared.Room.{Room}
 use Rattle.model.specs.declared.Outcome.{Outcome}
+use Rattle.model.specs.declared.WallQuery.{WallQuery}
+use Rattle.model.specs.declared.WallReply.{WallReply}
 use Rattle.model.specs.declared.Outcome.the-variants.{Accepted, Refused}
+use Rattle.model.specs.Ground.{Ground, ground}
 use Rattle.model.specs.Refusal.{given, first}
 use Rattle.model.specs.Areas.{room, roomLines, begun}
+use Rattle.model.specs.Check.{CheckAreas, Answers, noCheck}
 
 -- Four words each: left, top, right, bottom.
 unfoldable pub wordsOf : List PixelRect → List ℤ
@@ -33,3 +37,14 @@ CopyLeaves rs was now (Refused e) = now ≡ was
 pub record Copies (rs : List PixelRect) (was now : List ℤ) (r : Outcome) : Type 0 where
   pub outcome : given r ≡ first (roomLines (copyRooms rs was))
   pub leaves : CopyLeaves rs was now r
+
+-- What follows the copying: its refusal is passed on, and the areas of the check are left as they came; else it is `check_wall`'s answer.
+abbrev pub Continues : Outcome → Ground → WallQuery → CheckAreas → CheckAreas → WallReply → Type 0
+Continues Accepted g q was now r = Answers g q was now r
+Continues (Refused e) g q was now r = (r ≡ record { outcome = Refused e; check = noCheck }) × (now ≡ was)
+
+-- What `check_wall_records` answers: it copies, and then checks on the copied words. Area 1 keeps the copy where the check refuses.
+pub record RecordAnswers (width height : ℕ) (cells : List ℕ) (rs : List PixelRect) (q : WallQuery) (was now : List ℤ) (lent left : CheckAreas) (r : WallReply) : Type 0 where
+  pub told : Outcome
+  pub copies : Copies rs was now told
+  pub continues : Continues told (ground width height cells (wordsOf rs)) q lent left r

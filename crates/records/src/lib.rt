@@ -1,11 +1,19 @@
-// Obstacles as a list of rectangle records: a call that copies them to area 1, four words each, for the calls that take words.
-ghost use Prim.Native.Nat.{_+_, _*_, _<_};
+// Obstacles as a list of rectangle records: a call that copies them to area 1, four words each, and one that copies and then checks.
 ghost use mathlib.Core.Path.{_≡_};
-ghost use lib.ListN.{length};
-ghost use Rattle.records.specs.Copies.{stored, Copies};
+ghost use Prim.Native.Nat.{_+_, _*_, _<_, _≤_};
+ghost use lib.ListN.{length, take};
+ghost use Rattle.model.specs.Ground.{ground};
+ghost use Rattle.model.specs.Check.{noCheck};
+ghost use Rattle.records.specs.Copies.{stored, Copies, Continues};
 use model::Outcome;
+use model::Passed;
 use model::PixelRect;
+use model::WallCheck;
 use model::WallError;
+use model::WallPassage;
+use model::WallPlacement;
+use model::WallQuery;
+use model::WallReply;
 
 // Stores the sides of r at the places 4k to 4k + 3.
 fn put_rect(words: &mut [i32], k: usize, r: PixelRect)
@@ -44,4 +52,74 @@ pub fn copy_obstacles(rects: &[PixelRect], words: &mut [i32]) -> Outcome
         i += 1;
     }
     Outcome::Accepted
+}
+
+// What stands beside a refusal.
+fn no_check() -> WallCheck
+    ensures { λ r. ⌜ r ≡ noCheck ⌝ }
+{
+    let rect = PixelRect {
+        left: 0,
+        top: 0,
+        right: 0,
+        bottom: 0,
+    };
+    let none = WallPlacement {
+        footprint: rect,
+        collision: rect,
+        issues: 0,
+    };
+    let passed = Passed {
+        passage: WallPassage::StartBlocked,
+        baseline_passable: false,
+        points: 0,
+    };
+    WallCheck {
+        placements: [none; 32],
+        passed,
+        window: rect,
+    }
+}
+
+// Goes on from what the copying told: a refusal is passed on, else the words of n rectangles are checked.
+fn check_copied(
+    told: Outcome,
+    n: usize,
+    width: u32,
+    height: u32,
+    cells: &[u8],
+    words: &[i32],
+    query: WallQuery,
+    issues: &mut [u32],
+    base: &mut [u32],
+    planned: &mut [u32],
+    marks: &mut [u8],
+    parents: &mut [u32],
+    queue: &mut [u32],
+    route: &mut [u32],
+) -> WallReply
+    requires { ⌜ (told ≡ Outcome.Accepted → 4 * n ≤ length (now words)) ⌝ }
+    ensures { λ r. ⌜ Continues told (ground width height (now (cells .entry)) (take (4 * n) (now (words .entry)))) query (record { issues = now (issues .entry); base = now (base .entry); plan = now (planned .entry); marks = now (marks .entry); parents = now (parents .entry); queue = now (queue .entry); route = now (route .entry) }) (record { issues = now (issues .exit); base = now (base .exit); plan = now (planned .exit); marks = now (marks .exit); parents = now (parents .exit); queue = now (queue .exit); route = now (route .exit) }) r ⌝ }
+{
+    let Outcome::Accepted = told else {
+        let check = no_check();
+        return WallReply {
+            outcome: told,
+            check,
+        };
+    };
+    walls::check_wall(
+        width,
+        height,
+        cells,
+        &words[..4 * n],
+        query,
+        issues,
+        base,
+        planned,
+        marks,
+        parents,
+        queue,
+        route,
+    )
 }
