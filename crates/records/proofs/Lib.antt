@@ -1,4 +1,7 @@
 -- The laws that the proofs of this crate share.
 pub mod Words
 pub mod Fill
+pub mod Onward
 pub mod Rect
+pub mod Values
+pub mod Copying

@@ -4,7 +4,7 @@ ghost use Prim.Native.Nat.{_+_, _*_, _<_, _≤_};
 ghost use lib.ListN.{length, take};
 ghost use Rattle.model.specs.Ground.{ground};
 ghost use Rattle.model.specs.Check.{noCheck};
-ghost use Rattle.records.specs.Copies.{stored, Copies, Continues};
+ghost use Rattle.records.specs.Copies.{stored, Copies, Continues, RecordAnswers};
 use model::Outcome;
 use model::Passed;
 use model::PixelRect;
@@ -113,6 +113,45 @@ fn check_copied(
         height,
         cells,
         &words[..4 * n],
+        query,
+        issues,
+        base,
+        planned,
+        marks,
+        parents,
+        queue,
+        route,
+    )
+}
+
+// Copies the rectangles to area 1, and checks the query in the lent areas 2 to 8 with the copied words as obstacles. Where area 1 is too
+// small, that is refused before all else, and no area is changed.
+pub fn check_wall_records(
+    width: u32,
+    height: u32,
+    cells: &[u8],
+    rects: &[PixelRect],
+    words: &mut [i32],
+    query: WallQuery,
+    issues: &mut [u32],
+    base: &mut [u32],
+    planned: &mut [u32],
+    marks: &mut [u8],
+    parents: &mut [u32],
+    queue: &mut [u32],
+    route: &mut [u32],
+) -> WallReply
+    ensures { λ r. ⌜ RecordAnswers width height (now (cells .entry)) (now (rects .entry)) query (now (words .entry)) (now (words .exit)) (record { issues = now (issues .entry); base = now (base .entry); plan = now (planned .entry); marks = now (marks .entry); parents = now (parents .entry); queue = now (queue .entry); route = now (route .entry) }) (record { issues = now (issues .exit); base = now (base .exit); plan = now (planned .exit); marks = now (marks .exit); parents = now (parents .exit); queue = now (queue .exit); route = now (route .exit) }) r ⌝ }
+{
+    let told = copy_obstacles(rects, words);
+    let n = rects.len();
+    check_copied(
+        told,
+        n,
+        width,
+        height,
+        cells,
+        words,
         query,
         issues,
         base,

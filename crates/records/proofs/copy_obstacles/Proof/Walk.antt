@@ -1,6 +1,6 @@
 -- The borrow checker's derivation for `copy_obstacles`, written by hand: the driver writes none for a function with a `&[PixelRect]`.
 -- Locals: 0 the result, 1 `rects`, 2 `words`, 3 `n`, 4 `i`; 5, 6, 7 of the first test, 8 of the loop's; 9 to 14 of the call.
---     ps, r, xs, hs     the parameters' kinds, the result's, the types of the other locals, and where each lies
+--     xs, hs            the types of the locals behind the parameters, and where each local lies
 --     T-…               the table of the locals between two statements
 --     Φ                 what the statements ask and give, in their order
 --     typed             each statement by its rule
@@ -19,19 +19,13 @@ use contract.Lifetimes.{Lfts, Shares, AllOutlive}
 use denote.RattleType.{RattleType}
 use denote.Signed as signed
 use denote.Slice.{sliceTy}
-use denote.Exit.{yes}
-use denote.Enum.Declared as declared
-use denote.Enum.Laws as enum
-use borrow.Fn.Kinds.{PK, RK, osR, tyR}
+use borrow.Fn.Kinds.{osR, tyR}
 use borrow.Fn.Enter.{tysP}
 use borrow.Fn.Frame.{EnvOf}
 use borrow.Fn.Function.{Γin, Δret}
 use borrow.Fn.Call.{callB, sub-id}
 use borrow.Fn.Plain.{Known, t-call-plain}
-use borrow.Kind.ShrSlice.{pShrS}
-use borrow.Kind.MutSlice.{pMutS}
 use borrow.Kind.Num.{vAt}
-use borrow.Kind.Value.{rVal}
 use borrow.Table.Row.{Row, Cx, St, out, Sc, sInt, sBool, sPtr, sUnit, valS, lease, off, dead, get, set}
 use borrow.Table.Rows.{sc-here, any-gone, whole, sslice}
 use borrow.Table.Typed.{Mo, Tf, TF, Outs, Typed, withNext, inBlock₀, inLoop₀, inBlock, wantNext, LoopBy, pass, ask, both, give, atRet, atNext, atExit, s-seq, t-seq, s-typed, g-pre, t-return, t-skip, t-exit, t-block, t-loop-by}
@@ -42,7 +36,7 @@ use borrow.Table.Reads.{as-is, room-gone, ptrVal}
 use borrow.Rule.Scalar.{oAt, oInt, oFld, After, Φuse, n-room, k-op2, Φcond, g-room, room-sc, reads-sc, holds-sc, t-use, t-op2, t-cond}
 use borrow.Rule.DerefMove.{learns-nothing}
 use borrow.Rule.Lifetime.{g-begin, g-end, g-forget}
-use borrow.Rule.Local.{room-whole, mem-whole, whole-mem}
+use borrow.Rule.Local.{room-whole, whole-mem}
 use borrow.Rule.Yields.{makes-mem}
 use borrow.Rule.Slice.Move.{k-shs-copy-out, t-shs-copy-out}
 use borrow.Rule.Slice.Mut.{mslice, msleft, reads-mslice, reads-mslice-len}
@@ -52,6 +46,8 @@ use borrow.Enum.Make.{n-enum-make, t-enum-make-wt, made-val, made-is}
 use Rattle.model.proofs.Outcome as Outcome
 use Rattle.model.proofs.Outcome.Laws as outcome-laws
 use Rattle.records.proofs.Rect as Rect
+use Rattle.records.proofs.Values as values
+use Rattle.records.proofs.Copying.{ps, r}
 use Rattle.records.proofs.Fill.{Inv}
 use Rattle.records.proofs.put_rect.Kinds as put
 use Rattle.records.proofs.put_rect.Reads as put-reads
@@ -79,35 +75,11 @@ words-ref = tyRef (named 1) mut (tyInt w32)
 abbrev lent-ref : Ty
 lent-ref = tyRef erased mut (tyInt w32)
 
-abbrev pub ps : List (PK 2)
-ps = pShrS Rect.row 0 tt ∷ pMutS i32 1 tt ∷ []
-
 abbrev pub xs : List Ty
 xs = usize ∷ usize ∷ usize ∷ usize ∷ tyBool ∷ tyBool ∷ tyUnit ∷ lent-ref ∷ sliceTy lent-ref ∷ usize ∷ tyPtr ∷ Rect.spelt ∷ []
 
 abbrev pub hs : List Home
 hs = valueLocal ∷ valueLocal ∷ valueLocal ∷ valueLocal ∷ valueLocal ∷ valueLocal ∷ valueLocal ∷ valueLocal ∷ valueLocal ∷ valueLocal ∷ valueLocal ∷ valueLocal ∷ valueLocal ∷ valueLocal ∷ valueLocal ∷ []
-
-abbrev outcome-row : RattleType
-outcome-row = declared.row Outcome.the-type
-
-abbrev pub r : RK 2
-r = rVal record {
-  ty = outcome-row;
-  one = refl;
-  val = enum.val Outcome.the-type outcome-laws.the-laws;
-  tells = enum.tells Outcome.the-type outcome-laws.the-laws;
-  still = enum.still Outcome.the-type outcome-laws.the-copy yes;
-  row = whole outcome-row;
-  rd = λ x. x;
-  mk = λ x. x;
-} λ M 𝓤 H A W. record {
-  copies = enum.copy Outcome.the-type outcome-laws.the-copy 𝓤 H A W;
-  lawful = enum.lawful Outcome.the-type outcome-laws.the-laws 𝓤 H A W tt;
-  makes = enum.makes Outcome.the-type outcome-laws.the-plain 𝓤 H A;
-  in-mem = mem-whole 𝓤 H A W outcome-row;
-  of-mem = whole-mem 𝓤 H A W outcome-row;
-}
 
 -- ---- the tables. A local holds a number, a test or an address, or nothing
 abbrev num : Row
@@ -138,18 +110,18 @@ T c n i a b t u = record {
 -- around the call, while `words` is lent: the call's result, the pointer and the slice lent, the offset, the address and the rectangle
 abbrev C : Row → Row → Row → Row → Row → Row → Cx
 C v p s o q e = record {
-  locals = (0, any-gone outcome-laws.mir) ∷ (1, rects-row) ∷ (2, mslice-owed i32 words-ref 1 2 off) ∷ (3, num) ∷ (4, num) ∷ (5, no-num) ∷ (6, no-num) ∷ (7, no-test) ∷ (8, no-test) ∷ (9, v) ∷ (10, p) ∷ (11, s) ∷ (12, o) ∷ (13, q) ∷ (14, e) ∷ [];
+  locals = (0, any-gone values.outcome-ty) ∷ (1, rects-row) ∷ (2, mslice-owed i32 words-ref 1 2 off) ∷ (3, num) ∷ (4, num) ∷ (5, no-num) ∷ (6, no-num) ∷ (7, no-test) ∷ (8, no-test) ∷ (9, v) ∷ (10, p) ∷ (11, s) ∷ (12, o) ∷ (13, q) ∷ (14, e) ∷ [];
   slots = [];
 }
 
 abbrev no-outcome : Row
-no-outcome = any-gone outcome-laws.mir
+no-outcome = any-gone values.outcome-ty
 
 abbrev T-in : Cx
 T-in = T no-outcome no-num no-num no-num no-num no-test no-test
 
 abbrev T-out : Cx
-T-out = T (whole outcome-row) no-num no-num no-num no-num no-test no-test
+T-out = T (whole values.outcome-row) no-num no-num no-num no-num no-test no-test
 
 abbrev T-n : Cx
 T-n = T no-outcome num no-num no-num no-num no-test no-test
@@ -212,8 +184,8 @@ put-in vs u = set 4 (4, num) (vs .1) (T-loop .locals) (set 2 (2, words-row) reco
 abbrev frees : (Γ : Cx) (k : ℕ) (τ : Ty) → Tf Γ (After Γ k (any-gone τ))
 frees Γ k τ = pass Γ (After Γ k (any-gone τ)) (n-room Γ k τ)
 
-abbrev makes : (Γ : Cx) → (St (out 0 (Γ .locals)) → Outcome.the-type .D) → Tf Γ (After Γ 0 (whole outcome-row))
-makes Γ v = pass Γ (After Γ 0 (whole outcome-row)) (n-enum-make Outcome.the-type Γ 0 v)
+abbrev makes : (Γ : Cx) → (St (out 0 (Γ .locals)) → Outcome.the-type .D) → Tf Γ (After Γ 0 (whole values.outcome-row))
+makes Γ v = pass Γ (After Γ 0 (whole values.outcome-row)) (n-enum-make Outcome.the-type Γ 0 v)
 
 -- `if words.len() < 4 * n { return .. }`, once its test is in local 7
 abbrev T-if : Cx
@@ -222,8 +194,8 @@ T-if = T no-outcome num no-num no-num no-num test no-test
 abbrev Φ-then : TF T-if O-if
 Φ-then =
     λ Ψ. frees T-if 7 tyBool (
-    both (callB small.ps small.r small-reads.Asked small-reads.Learnt T-n tt 0 [] outcome-laws.mir) (
-    frees (T (whole outcome-row) num no-num no-num no-num no-test no-test) 3 usize (atRet O-if Ψ)))
+    both (callB small.ps small.r small-reads.Asked small-reads.Learnt T-n tt 0 [] values.outcome-ty) (
+    frees (T (whole values.outcome-row) num no-num no-num no-num no-test no-test) 3 usize (atRet O-if Ψ)))
 
 abbrev Φ-else : TF T-if O-if
 Φ-else = λ Ψ. frees T-if 7 tyBool (atNext O-if Ψ)
@@ -267,8 +239,8 @@ abbrev Φ-round : TF T-loop O-loop
 abbrev Φ-done : TF T-loop O
 Φ-done =
     λ Ψ. makes T-loop (λ m. Outcome.enum .make (inl tt)) (
-    frees (T (whole outcome-row) num num no-num no-num no-test no-test) 3 usize (
-    frees (T (whole outcome-row) no-num num no-num no-num no-test no-test) 4 usize (atRet O Ψ)))
+    frees (T (whole values.outcome-row) num num no-num no-num no-test no-test) 3 usize (
+    frees (T (whole values.outcome-row) no-num num no-num no-num no-test no-test) 4 usize (atRet O Ψ)))
 
 -- `let mut i = 0;`, the loop, and what follows
 abbrev Φ-rest : TF T-n O
@@ -312,7 +284,7 @@ module _ (κs : Lfts 2) (qs : Shares 2) where
         g-pre 𝓤 H A W 𝓣 E _ _ _ _ _ _ (g-room 𝓤 H A W E _ 6 usize (room-sc 𝓤 H A W sNat)) (
         t-cond 𝓤 H A W E 𝓣 (held T-if) 7 (λ x. x) _ _ _ Φ-then Φ-else (reads-sc 𝓤 H A W sBool) refl
         (g-pre 𝓤 H A W 𝓣 E _ _ _ _ _ _ (g-room 𝓤 H A W E _ 7 tyBool (room-sc 𝓤 H A W sBool)) (
-        s-seq 𝓤 H A W 𝓣 E _ _ _ _ _ _ _ (t-call-plain 𝓤 H A W 𝓣 0 small.ps small.r small-reads.Asked small-reads.Learnt "records::too_small" known-small E (λ pos β. β) _ tt 0 [] (sub-id 𝓤 H A W _) tt (room-gone 𝓤 H A outcome-laws.mir) tt refl) (
+        s-seq 𝓤 H A W 𝓣 E _ _ _ _ _ _ _ (t-call-plain 𝓤 H A W 𝓣 0 small.ps small.r small-reads.Asked small-reads.Learnt "records::too_small" known-small E (λ pos β. β) _ tt 0 [] (sub-id 𝓤 H A W _) tt (room-gone 𝓤 H A values.outcome-ty) tt refl) (
         g-pre 𝓤 H A W 𝓣 E _ _ _ _ _ _ (g-room 𝓤 H A W E _ 3 usize (room-sc 𝓤 H A W sNat)) (
         t-return 𝓤 H A W 𝓣 E Δ-if tt))))
         (g-pre 𝓤 H A W 𝓣 E _ _ _ _ _ _ (g-room 𝓤 H A W E _ 7 tyBool (room-sc 𝓤 H A W sBool)) (t-skip 𝓤 H A W 𝓣 E Δ-if tt))))
@@ -343,7 +315,7 @@ module _ (κs : Lfts 2) (qs : Shares 2) where
 
     typed-done : Typed 𝓤 H A 𝓣 E (held T-loop) mir-of.t-8 Δ Φ-done
     typed-done =
-        s-seq 𝓤 H A W 𝓣 E _ _ _ _ _ _ _ (t-enum-make-wt 𝓤 H A W E 𝓣 Outcome.the-type outcome-laws.the-laws outcome-laws.the-plain tt _ 0 (oInt w8 0 ∷ []) (λ m. Outcome.enum .make (inl tt)) (room-gone 𝓤 H A outcome-laws.mir) (tt, tt) refl
+        s-seq 𝓤 H A W 𝓣 E _ _ _ _ _ _ _ (t-enum-make-wt 𝓤 H A W E 𝓣 Outcome.the-type outcome-laws.the-laws outcome-laws.the-plain tt _ 0 (oInt w8 0 ∷ []) (λ m. Outcome.enum .make (inl tt)) (room-gone 𝓤 H A values.outcome-ty) (tt, tt) refl
         (λ m wa. made-val Outcome.the-type outcome-laws.the-laws [] (Outcome.enum .make (inl tt)) tt (wa .1))
         (λ m wa. made-is Outcome.the-type outcome-laws.the-laws [] (Outcome.enum .make (inl tt)) tt (wa .1))) (
         g-pre 𝓤 H A W 𝓣 E _ _ _ _ _ _ (g-room 𝓤 H A W E _ 3 usize (room-sc 𝓤 H A W sNat)) (
