@@ -3,7 +3,7 @@
 --     Inv           the loop's invariant: that, at a list as long as d
 --     begins, again, ends     it holds at first, after the four stores of a turn, and at the end it is what the contract says
 --     refuses       what the contract says where there is too little room
---     reaches, less, four-fits     the four stores lie within the list; the measure falls; four times the count fits a `usize`
+--     reaches, less, few     the four stores lie within the list; the measure falls; a slice of rectangles is so short that four times its count fits a `usize`
 use mathlib.Core.Bool.{true, false}
 use mathlib.Core.Path.{_≡_, refl, sym, ap, subst, _∙_}
 use mathlib.Core.List.{List, [], _∷_, _++_}
@@ -11,8 +11,6 @@ use Prim.Native.Nat.{ℕ, zero, suc, _+_, _-_, _*_, _<_, _≤_, _^_}
 use native.Mathlib.Nat.{not-suc-le-zero, le-of-suc-le-suc}
 use native.Mathlib.Numerals.{unary-clauses}
 use native.Mathlib.Omega.{arith}
-use mir.Syntax.{w64}
-use mir.Val.{Fits}
 use borrow.Author.Tests.{ltb-true, ltb-false}
 use lib.Dec.{ltb}
 use lib.IntN.{ℤ}
@@ -109,5 +107,5 @@ refuses rs d r e is = rw is (record { outcome = simp e; leaves = refl })
 pub less : (n i : ℕ) → ltb i n ≡ true → n - (i + 1) < n - i
 less n i e = omega (arith, ltb-true i n e)
 
-pub four-fits : (n : ℕ) → n * 16 < 2 ^ 63 → Fits w64 (4 * n)
-four-fits n h = record { fits = omega (arith, h) }
+pub few : (n : ℕ) → n * 16 < 2 ^ 63 → n < 4611686018427387904
+few n h = omega (arith, h)

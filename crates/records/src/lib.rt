@@ -31,6 +31,14 @@ fn put_rect(words: &mut [i32], k: usize, r: PixelRect)
     words[at + 3] = bottom;
 }
 
+// Four words for each of n rectangles.
+fn words_needed(n: usize) -> usize
+    requires { ⌜ n < 4611686018427387904 ⌝ }
+    ensures { λ r. ⌜ r ≡ 4 * n ⌝ }
+{
+    4 * n
+}
+
 // 17 of area 1.
 fn too_small() -> Outcome
     ensures { λ r. ⌜ r ≡ Outcome.Refused (WallError.RoomTooSmall 1) ⌝ }
@@ -43,7 +51,7 @@ pub fn copy_obstacles(rects: &[PixelRect], words: &mut [i32]) -> Outcome
     ensures { λ r. ⌜ Copies (now (rects .entry)) (now (words .entry)) (now (words .exit)) r ⌝ }
 {
     let n = rects.len();
-    if words.len() < 4 * n {
+    if words.len() < words_needed(n) {
         return too_small();
     }
     let mut i = 0;
@@ -112,7 +120,7 @@ fn check_copied(
         width,
         height,
         cells,
-        &words[..4 * n],
+        &words[..words_needed(n)],
         query,
         issues,
         base,

@@ -1,6 +1,7 @@
 -- `records::check_copied` meets its contract. Assumes nothing.
 use Prim.Native.Nat.{_*_}
 use mathlib.Core.Path.{refl, sym}
+use native.Mathlib.Omega.{arith}
 use lib.Seq.{length-take-le}
 use denote.Ref.{now}
 use borrow.Author.Needs.{needs}
@@ -19,17 +20,18 @@ no-check-requires c κs = search needs
 returns : tie.Need-returns
 returns c = rw (c .before .enum-told2 .given .1) (rw (c .no-check .ensures) refl, refl)
 
-mul-check-wall : tie.Need-mul-check-wall
-mul-check-wall c =
+words-needed-requires : tie.Need-words-needed-requires
+words-needed-requires c κs =
     let start = c .before .before .before .before .before .before .before .before .before .before in
     let enough = start .pre (c .enum-told .given .1) in
-    search needs
+    omega (arith, enough, start .good)
 
 slice-aggregate-check-wall : tie.Need-slice-aggregate-check-wall
 slice-aggregate-check-wall c =
-    let start = c .before .before .before .before .before .before .before .before .before .before .before in
-    let enough = start .pre (c .before .enum-told .given .1) in
-    sym (length-take-le (4 * start .args .n) (now (start .args .words)) enough)
+    let needed = c .before in
+    let accepted = needed .before in
+    let start = accepted .before .before .before .before .before .before .before .before .before .before in
+    rw (needed .words-needed .ensures) (sym (length-take-le (4 * start .args .n) (now (start .args .words)) (start .pre (accepted .enum-told .given .1))))
 
 check-wall-requires : tie.Need-check-wall-requires
 check-wall-requires c κs = search needs
@@ -58,8 +60,8 @@ same-length-7 c = search needs
 returns-2 : tie.Need-returns-2
 returns-2 c =
     let check = c .before .before .before .before .before .before .before .before .before .before .before .before .before .before in
-    let accepted = check .before .before .before .before .before .before .before .before .before in
-    rw (accepted .enum-told .given .1) (check .check-wall .ensures)
+    let needed = check .before .before .before .before .before .before .before .before .before in
+    rw (needed .before .enum-told .given .1) (rw (needed .words-needed .ensures) at (check .check-wall .ensures))
 
 pub check-copied-spec : {M : Type 1} → statement M
 check-copied-spec =
@@ -69,7 +71,7 @@ check-copied-spec =
     enum-told-2
     no-check-requires
     returns
-    mul-check-wall
+    words-needed-requires
     slice-aggregate-check-wall
     check-wall-requires
     same-length

@@ -1,7 +1,9 @@
 mod Walk
-use Prim.Native.Nat.{ℕ, _+_, _-_}
-use mathlib.Core.Path.{refl}
+use Prim.Native.Nat.{ℕ, _+_, _-_, _*_}
+use mathlib.Core.Bool.{false}
+use mathlib.Core.Path.{_≡_, refl}
 use mathlib.Core.List.{List}
+use lib.Dec.{ltb}
 use lib.ListN.{length}
 use contract.Lifetimes.{Lfts, Shares}
 use contract.Running.{givenOf, tablesOf}
@@ -16,11 +18,14 @@ use borrow.Fn.Run.{Over}
 use borrow.Fn.World.{World}
 use borrow.Fn.Written as written
 use borrow.Kind.MutSlice.{fix-len}
-use Rattle.records.proofs.Fill.{begins, reaches, again, less, refuses, ends, four-fits}
+use Rattle.records.proofs.Fill.{begins, reaches, again, less, refuses, ends, few}
 use Rattle.records.proofs.Rect as Rect
 use Rattle.records.proofs.put_rect.Met as put-met
 use Rattle.records.proofs.put_rect.Reads as put-reads
 use Rattle.records.proofs.put_rect.Symbol as put
+use Rattle.records.proofs.words_needed.Met as needed-met
+use Rattle.records.proofs.words_needed.Reads as needed-reads
+use Rattle.records.proofs.words_needed.Symbol as needed
 use Rattle.records.proofs.too_small.Met as small-met
 use Rattle.records.proofs.too_small.Reads as small-reads
 use Rattle.records.proofs.too_small.Symbol as small
@@ -33,32 +38,38 @@ use Rattle.records.proofs.copy_obstacles.Proof.Walk as walk
 -- ---- what the statements ask, in their order
 asked : (κs : Lfts 2) (qs : Shares 2) (a : Dens κs ps) → GoodsP κs ps a → Pre κs a → (bs : List ℕ) → walk.Φ (wantQ 2 ps r walk.xs 1 κs qs a (Post κs a)) (init 2 ps r walk.xs 1 κs qs a)
 asked κs qs a good pre bs =
-    let rs = a .0 .now
-    in let d = a .1 .0 .now
-    in (
-      four-fits (length rs) (good .0 .1),
-      (
+    let rs = a .0 .now in
+    let d = a .1 .0 .now in
+    -- the words needed, of which e is learnt
+    (
+      (λ κ. few (length rs) (good .0 .1)),
+      λ e. (
         tt,
         (
           -- too little room
-          (λ small. ((λ κ. tt), λ c. ((refl, (refl, tt)), refuses rs d (c .1) small (c .5)))),
-          (λ room. (
+          (λ small. ((λ κ. tt), λ c. ((refl, (refl, tt)), refuses rs d (c .1) (rw (e .5) at small) (c .5)))),
+          -- the loop: what holds at first, and then at every turn
+          (λ large. let room : ltb (length d) (4 * length rs) ≡ false = rw (e .5) at large in (
             ((d, 0), refl, begins rs d),
             λ vs inv. (
               tt,
               (
-                -- a turn
-                (λ go g. (
+                -- a turn: the rectangle is read, and put, of which c is learnt
+                (λ go g. let below = ltb-true (vs .1) (length rs) go in (
                   refl,
                   (
-                    scaled-fits (vs .1) (length rs) 16 (ltb-true (vs .1) (length rs) go) (good .0 .1),
+                    scaled-fits (vs .1) (length rs) 16 below (good .0 .1),
                     (
                       tt,
                       (
-                        (refl, refl, ltb-true (vs .1) (length rs) go),
+                        (refl, refl, below),
                         λ g′. (
                           (λ κ. reaches rs d room (vs .0) (vs .1) inv go),
-                          λ c. (refl, λ g″. (search needs, (length rs - (vs .1 + 1), less (length rs) (vs .1) go, ((c .2 .0, vs .1 + 1), refl, again rs d room (vs .0) (c .2 .0) (vs .1) Rect.none inv go (c .5), refl)))),
+                          λ c. (
+                            refl,
+                            λ g″.
+                                (search needs, (length rs - (vs .1 + 1), less (length rs) (vs .1) go, ((c .2 .0, vs .1 + 1), refl, again rs d room (vs .0) (c .2 .0) (vs .1) Rect.none inv go (c .5), refl))),
+                          ),
                         ),
                       ),
                     ),
@@ -80,4 +91,4 @@ copy-obstacles-spec {M} 𝓤 H 𝓜 𝓖 𝓡 =
     in written.close 2 ps r (Unit {0}) requires ensures pre-read Pinned Owned post-read w code.env name code.function (code.unfolded 𝓤 H 𝓜 𝓡) (λ κs a g. tt)
     (λ κs. no-owns (endedOf 2 ps r) (stays ps) κs w) (passes w)
     (λ g. t-fn-plain 𝓤 H (𝓖 .A) (givenOf 𝓤 H 𝓜 𝓖) (Over 𝓤 H 𝓜 𝓖 𝓡 code.env) 2 ps r walk.xs 1 walk.hs (code.function .body) (λ κs qs bs. walk.Φ)
-    (λ κs qs bs bd. walk.typed κs qs 𝓤 H (𝓖 .A) (givenOf 𝓤 H 𝓜 𝓖) (Over 𝓤 H 𝓜 𝓖 𝓡 code.env) (put-reads.known w code.env put.name put.routine code.calls-records·put-rect (put-met.met 𝓤 H 𝓜 𝓖 𝓡)) (small-reads.known w code.env small.name small.routine code.calls-records·too-small (small-met.met 𝓤 H 𝓜 𝓖 𝓡)) bs bd) Pre Post asked)
+    (λ κs qs bs bd. walk.typed κs qs 𝓤 H (𝓖 .A) (givenOf 𝓤 H 𝓜 𝓖) (Over 𝓤 H 𝓜 𝓖 𝓡 code.env) (put-reads.known w code.env put.name put.routine code.calls-records·put-rect (put-met.met 𝓤 H 𝓜 𝓖 𝓡)) (needed-reads.known w code.env needed.name needed.routine code.calls-records·words-needed (needed-met.met 𝓤 H 𝓜 𝓖 𝓡)) (small-reads.known w code.env small.name small.routine code.calls-records·too-small (small-met.met 𝓤 H 𝓜 𝓖 𝓡)) bs bd) Pre Post asked)

@@ -51,6 +51,8 @@ use Rattle.records.proofs.Copying.{ps, r}
 use Rattle.records.proofs.Fill.{Inv}
 use Rattle.records.proofs.put_rect.Kinds as put
 use Rattle.records.proofs.put_rect.Reads as put-reads
+use Rattle.records.proofs.words_needed.Kinds as needed
+use Rattle.records.proofs.words_needed.Reads as needed-reads
 use Rattle.records.proofs.too_small.Kinds as small
 use Rattle.records.proofs.too_small.Reads as small-reads
 use Rattle.records.proofs.copy_obstacles.Code as code
@@ -187,7 +189,7 @@ frees Γ k τ = pass Γ (After Γ k (any-gone τ)) (n-room Γ k τ)
 abbrev makes : (Γ : Cx) → (St (out 0 (Γ .locals)) → Outcome.the-type .D) → Tf Γ (After Γ 0 (whole values.outcome-row))
 makes Γ v = pass Γ (After Γ 0 (whole values.outcome-row)) (n-enum-make Outcome.the-type Γ 0 v)
 
--- `if words.len() < 4 * n { return .. }`, once its test is in local 7
+-- `if words.len() < words_needed(n) { return .. }`, once its test is in local 7
 abbrev T-if : Cx
 T-if = T no-outcome num no-num no-num no-num test no-test
 
@@ -242,17 +244,21 @@ abbrev Φ-done : TF T-loop O
     frees (T (whole values.outcome-row) num num no-num no-num no-test no-test) 3 usize (
     frees (T (whole values.outcome-row) no-num num no-num no-num no-test no-test) 4 usize (atRet O Ψ)))
 
+-- the first rectangle to be copied
+abbrev first : ℕ
+first = 0
+
 -- `let mut i = 0;`, the loop, and what follows
 abbrev Φ-rest : TF T-n O
 Φ-rest =
-    λ Ψ. Φuse T-n (oInt w64 0) 4 num (sNat .of) (
+    λ Ψ. Φuse T-n (oInt w64 first) 4 num (sNat .of) (
     LoopBy T-loop (inBlock₀ (withNext (some T-loop) O)) put-in inv μ Φ-round (inBlock (withNext (some T-loop) O) (wantNext T-loop O (Φ-done Ψ) Ψ)))
 
 abbrev pub Φ : TF T-in O
 Φ =
     λ Ψ. Φuse T-in (oFld 1 (field 1 ∷ []) usize 8 lenV) 3 num (sNat .of) (
     Φuse T-n (oFld 2 (field 1 ∷ []) usize 8 lenV) 5 num (sNat .of) (
-    ask (k-op2 (T no-outcome num no-num num no-num no-test no-test) (mul unsigned) (oInt w64 4) (oAt 3 usize (valS sNat)) 6 num (sNat .of)) (
+    both (callB needed.ps needed.r needed-reads.Asked needed-reads.Learnt (T no-outcome num no-num num no-num no-test no-test) (vAt 3 (λ x. x), tt) 6 [] usize) (
     ask (k-op2 (T no-outcome num no-num num num no-test no-test) (lt unsigned) (oAt 5 usize (valS sNat)) (oAt 6 usize (valS sNat)) 7 test (sBool .of)) (
     Φ-if (wantNext T-n O (Φ-rest Ψ) Ψ)))))
 
@@ -274,7 +280,7 @@ module _ (κs : Lfts 2) (qs : Shares 2) where
   abbrev Δ-test : Outs
   Δ-test = withNext (some (held T-loop)) Δ-loop
 
-  module _ {M : Type 1} (𝓤 : URA M) (H : Heap 𝓤) (A : Atoms 𝓤) (W : Given 𝓤 H A) (𝓣 : Tables 𝓤 H) (known : Known 𝓤 H A W 𝓣 1 put.ps put.r put-reads.Asked put-reads.Learnt "records::put_rect") (known-small : Known 𝓤 H A W 𝓣 0 small.ps small.r small-reads.Asked small-reads.Learnt "records::too_small") (bs : List ℕ) (bd : AllOutlive 2 (osR r) κs) where
+  module _ {M : Type 1} (𝓤 : URA M) (H : Heap 𝓤) (A : Atoms 𝓤) (W : Given 𝓤 H A) (𝓣 : Tables 𝓤 H) (known : Known 𝓤 H A W 𝓣 1 put.ps put.r put-reads.Asked put-reads.Learnt "records::put_rect") (known-needed : Known 𝓤 H A W 𝓣 0 needed.ps needed.r needed-reads.Asked needed-reads.Learnt "records::words_needed") (known-small : Known 𝓤 H A W 𝓣 0 small.ps small.r small-reads.Asked small-reads.Learnt "records::too_small") (bs : List ℕ) (bd : AllOutlive 2 (osR r) κs) where
     abbrev E : Env 𝓤 H
     E = EnvOf 𝓤 H (tyR r ∷ tysP ps xs) bs
 
@@ -326,8 +332,8 @@ module _ (κs : Lfts 2) (qs : Shares 2) where
     typed =
         s-seq 𝓤 H A W 𝓣 E _ (held T-n) _ _ _ _ _ (t-use 𝓤 H A W E 𝓣 _ (oFld 1 (field 1 ∷ []) usize 8 lenV) 3 num usize (valS sNat) (sNat .of) (reads-sslice-len 𝓤 H A W Rect.row rects-ref 0 8 refl, refl) (room-gone 𝓤 H A usize) (holds-sc 𝓤 H A W sNat) refl (λ u. refl) (λ u. tt)) (
         s-seq 𝓤 H A W 𝓣 E _ _ _ _ _ _ _ (t-use 𝓤 H A W E 𝓣 _ (oFld 2 (field 1 ∷ []) usize 8 lenV) 5 num usize (valS sNat) (sNat .of) (reads-mslice-len 𝓤 H A W i32 words-ref 1 8 refl, refl) (room-gone 𝓤 H A usize) (holds-sc 𝓤 H A W sNat) refl (λ u. refl) (λ u. tt)) (
-        s-seq 𝓤 H A W 𝓣 E _ _ _ _ _ _ _ (t-op2 𝓤 H A W E 𝓣 _ (mul unsigned) (oInt w64 4) (oAt 3 usize (valS sNat)) 6 num usize (valS sNat) (sNat .of) tt (reads-sc 𝓤 H A W sNat, refl) (room-gone 𝓤 H A usize) (holds-sc 𝓤 H A W sNat) refl (λ u. refl) (λ u. tt)) (
+        s-seq 𝓤 H A W 𝓣 E _ _ _ _ _ _ _ (t-call-plain 𝓤 H A W 𝓣 0 needed.ps needed.r needed-reads.Asked needed-reads.Learnt "records::words_needed" known-needed E (λ pos β. β) _ (vAt 3 (λ x. x), tt) 6 [] (sub-id 𝓤 H A W _) ((reads-sc 𝓤 H A W sNat, refl), tt) (room-gone 𝓤 H A usize) tt refl) (
         s-seq 𝓤 H A W 𝓣 E _ (held (T no-outcome num no-num num num test no-test)) _ _ _ _ _ (t-op2 𝓤 H A W E 𝓣 _ (lt unsigned) (oAt 5 usize (valS sNat)) (oAt 6 usize (valS sNat)) 7 test tyBool (valS sBool) (sBool .of) (reads-sc 𝓤 H A W sNat, refl) (reads-sc 𝓤 H A W sNat, refl) (room-gone 𝓤 H A tyBool) (holds-sc 𝓤 H A W sBool) refl (λ u. refl) (λ u. tt)) (
         t-seq 𝓤 H A W 𝓣 E _ (held T-n) _ _ _ Φ-if Φ-rest typed-if (
-        s-seq 𝓤 H A W 𝓣 E _ (held T-loop) _ _ _ _ _ (t-use 𝓤 H A W E 𝓣 _ (oInt w64 0) 4 num usize (valS sNat) (sNat .of) tt (room-gone 𝓤 H A usize) (holds-sc 𝓤 H A W sNat) refl (λ u. refl) (λ u. tt)) (
+        s-seq 𝓤 H A W 𝓣 E _ (held T-loop) _ _ _ _ _ (t-use 𝓤 H A W E 𝓣 _ (oInt w64 first) 4 num usize (valS sNat) (sNat .of) tt (room-gone 𝓤 H A usize) (holds-sc 𝓤 H A W sNat) refl (λ u. refl) (λ u. tt)) (
         t-seq 𝓤 H A W 𝓣 E _ (held T-loop) _ _ _ _ Φ-done (t-block 𝓤 H A W 𝓣 E _ _ _ _ (t-loop-by 𝓤 H A W 𝓣 E (held T-loop) _ _ put-in inv μ Φ-round typed-round)) typed-done))))))
