@@ -3,5 +3,6 @@ pub mod Words
 pub mod Fill
 pub mod Onward
 pub mod Rect
+pub mod Asking
 pub mod Values
 pub mod Copying

@@ -1,5 +1,5 @@
-mod Walk
 -- `records::check_wall_records` meets its contract, by the derivation in `Walk`. Assumes nothing.
+mod Walk
 use Prim.Native.Nat.{ℕ}
 use mathlib.Core.Path.{_≡_, refl, ap}
 use mathlib.Core.List.{List}
@@ -19,6 +19,7 @@ use borrow.Fn.Run.{Over}
 use borrow.Fn.World.{World, Pr, ArgsD, ResD}
 use borrow.Fn.World as world
 use borrow.Fn.Written as written
+use Rattle.records.proofs.Asking.{_▸_}
 use Rattle.records.proofs.Onward.{enough, joined}
 use Rattle.records.proofs.Copying as copying
 use Rattle.records.proofs.copy_obstacles.Met as copy-met
@@ -70,73 +71,25 @@ asked : (κs : Lfts 10) (qs : Shares 10) (a : Dens κs walk.ps) → GoodsP κs w
 asked κs qs a good pre bs =
     let rs = now (a .1 .1 .1 .0) in
     let was = now (a .1 .1 .1 .1 .0) in
-    -- the copying, of which c is learnt
-    λ g. (
-      refl,
-      (
-        (λ κ. tt),
-        λ c. (
-          refl,
-          λ same.
-              -- the areas are lent to the check
-              λ h1. (
-                refl,
-                λ h2. (
-                  refl,
-                  λ h3. (
-                    refl,
-                    λ h4. (
-                      refl,
-                      λ h5. (
-                        refl,
-                        λ h6. (
-                          refl,
-                          λ h7. (
-                            refl,
-                            λ h8. (
-                              refl,
-                              -- the check, of which d is learnt
-                              (
-                                (λ κ. enough rs was (c .2 .1 .0) (c .1) (c .5)),
-                                λ d.
-                                    -- the areas come back as long as they were
-                                    (
-                                      refl,
-                                      λ g2. (
-                                        refl,
-                                        λ g3. (
-                                          refl,
-                                          λ g4. (
-                                            refl,
-                                            λ g5. (
-                                              refl,
-                                              λ g6. (
-                                                refl,
-                                                λ g7. (
-                                                  refl,
-                                                  λ g8. (
-                                                    (tt, (tt, (refl, (refl, (same-length (a .1 .1 .1 .1 .0) (c .2 .1 .0) same, (tt, (same-length (a .1 .1 .1 .1 .1 .1 .0) (d .2 .1 .1 .1 .1 .1 .1 .1 .0) g2, (same-length (a .1 .1 .1 .1 .1 .1 .1 .0) (d .2 .1 .1 .1 .1 .1 .1 .1 .1 .0) g3, (same-length (a .1 .1 .1 .1 .1 .1 .1 .1 .0) (d .2 .1 .1 .1 .1 .1 .1 .1 .1 .1 .0) g4, (same-length (a .1 .1 .1 .1 .1 .1 .1 .1 .1 .0) (d .2 .1 .1 .1 .1 .1 .1 .1 .1 .1 .1 .0) g5, (same-length (a .1 .1 .1 .1 .1 .1 .1 .1 .1 .1 .0) (d .2 .1 .1 .1 .1 .1 .1 .1 .1 .1 .1 .1 .0) g6, (same-length (a .1 .1 .1 .1 .1 .1 .1 .1 .1 .1 .1 .0) (d .2 .1 .1 .1 .1 .1 .1 .1 .1 .1 .1 .1 .1 .0) g7, (same-length (a .1 .1 .1 .1 .1 .1 .1 .1 .1 .1 .1 .1 .0) (d .2 .1 .1 .1 .1 .1 .1 .1 .1 .1 .1 .1 .1 .1 .0) g8, tt))))))))))))),
-                                                    joined rs was (c .2 .1 .0) (a .0) (a .1 .0) (now (a .1 .1 .0)) (a .1 .1 .1 .1 .1 .0) _ _ (d .1) (c .1) (c .5) (d .5),
-                                                  ),
-                                                ),
-                                              ),
-                                            ),
-                                          ),
-                                        ),
-                                      ),
-                                    ),
-                              ),
-                            ),
-                          ),
-                        ),
-                      ),
-                    ),
-                  ),
-                ),
-              ),
-        ),
-      ),
-    )
+    -- the copying, of which c is learnt; area 1 comes back as long as it was
+    λ g. refl ▸ (λ κ. tt) ▸ λ c. refl ▸ λ same.
+    -- the areas are lent to the check
+    λ h1. refl ▸ λ h2. refl ▸ λ h3. refl ▸ λ h4. refl ▸ λ h5. refl ▸ λ h6. refl ▸ λ h7. refl ▸ λ h8. refl
+    -- the check, of which d is learnt
+    ▸ (λ κ. enough rs was (c .2 .1 .0) (c .1) (c .5)) ▸ λ d.
+    -- the areas come back as long as they were
+    refl ▸ λ g2. refl ▸ λ g3. refl ▸ λ g4. refl ▸ λ g5. refl ▸ λ g6. refl ▸ λ g7. refl ▸ λ g8.
+    (tt ▸ tt ▸ refl ▸ refl ▸ same-length (a .1 .1 .1 .1 .0) (c .2 .1 .0) same ▸ tt
+    ▸ same-length (a .1 .1 .1 .1 .1 .1 .0) (d .2 .1 .1 .1 .1 .1 .1 .1 .0) g2
+    ▸ same-length (a .1 .1 .1 .1 .1 .1 .1 .0) (d .2 .1 .1 .1 .1 .1 .1 .1 .1 .0) g3
+    ▸ same-length (a .1 .1 .1 .1 .1 .1 .1 .1 .0) (d .2 .1 .1 .1 .1 .1 .1 .1 .1 .1 .0) g4
+    ▸ same-length (a .1 .1 .1 .1 .1 .1 .1 .1 .1 .0) (d .2 .1 .1 .1 .1 .1 .1 .1 .1 .1 .1 .0) g5
+    ▸ same-length (a .1 .1 .1 .1 .1 .1 .1 .1 .1 .1 .0) (d .2 .1 .1 .1 .1 .1 .1 .1 .1 .1 .1 .1 .0) g6
+    ▸ same-length (a .1 .1 .1 .1 .1 .1 .1 .1 .1 .1 .1 .0) (d .2 .1 .1 .1 .1 .1 .1 .1 .1 .1 .1 .1 .1 .0) g7
+    ▸ same-length (a .1 .1 .1 .1 .1 .1 .1 .1 .1 .1 .1 .1 .0) (d .2 .1 .1 .1 .1 .1 .1 .1 .1 .1 .1 .1 .1 .1 .0) g8
+    ▸ tt)
+    -- what is promised
+    ▸ joined rs was (c .2 .1 .0) (a .0) (a .1 .0) (now (a .1 .1 .0)) (a .1 .1 .1 .1 .1 .0) _ _ (d .1) (c .1) (c .5) (d .5)
 
 pub check-wall-records-spec : {M : Type 1} → statement M
 unfolding code.routine tablesOf

@@ -1,3 +1,4 @@
+-- `records::copy_obstacles` meets its contract, by the derivation in `Walk`. Assumes nothing.
 mod Walk
 use Prim.Native.Nat.{ℕ, _+_, _-_, _*_}
 use mathlib.Core.Bool.{false}
@@ -32,6 +33,7 @@ use Rattle.records.proofs.too_small.Symbol as small
 use Rattle.records.proofs.copy_obstacles.Code as code
 use Rattle.records.proofs.copy_obstacles.Key.{name}
 use Rattle.records.proofs.copy_obstacles.Statement.{statement}
+use Rattle.records.proofs.Asking.{_▸_}
 use Rattle.records.proofs.Copying.{ps, r, requires, ensures, pre-read, post-read, Pinned, Owned, Pre, Post, passes}
 use Rattle.records.proofs.copy_obstacles.Proof.Walk as walk
 
@@ -41,48 +43,20 @@ asked κs qs a good pre bs =
     let rs = a .0 .now in
     let d = a .1 .0 .now in
     -- the words needed, of which e is learnt
-    (
-      (λ κ. few (length rs) (good .0 .1)),
-      λ e. (
-        tt,
-        (
-          -- too little room
-          (λ small. ((λ κ. tt), λ c. ((refl, (refl, tt)), refuses rs d (c .1) (rw (e .5) at small) (c .5)))),
-          -- the loop: what holds at first, and then at every turn
-          (λ large. let room : ltb (length d) (4 * length rs) ≡ false = rw (e .5) at large in (
-            ((d, 0), refl, begins rs d),
-            λ vs inv. (
-              tt,
-              (
-                -- a turn: the rectangle is read, and put, of which c is learnt
-                (λ go g. let below = ltb-true (vs .1) (length rs) go in (
-                  refl,
-                  (
-                    scaled-fits (vs .1) (length rs) 16 below (good .0 .1),
-                    (
-                      tt,
-                      (
-                        (refl, refl, below),
-                        λ g′. (
-                          (λ κ. reaches rs d room (vs .0) (vs .1) inv go),
-                          λ c. (
-                            refl,
-                            λ g″.
-                                (search needs, (length rs - (vs .1 + 1), less (length rs) (vs .1) go, ((c .2 .0, vs .1 + 1), refl, again rs d room (vs .0) (c .2 .0) (vs .1) Rect.none inv go (c .5), refl))),
-                          ),
-                        ),
-                      ),
-                    ),
-                  ),
-                )),
-                -- the end
-                (λ stop. ((refl, (fix-len (a .1 .0 .ptr) (a .1 .0 .name) (vs .0) d (inv .1), tt)), ends rs d room (vs .0) (vs .1) inv stop)),
-              ),
-            ),
-          )),
-        ),
-      ),
-    )
+    (λ κ. few (length rs) (good .0 .1)) ▸ λ e. tt
+    -- too little room
+    ▸ (λ small. (λ κ. tt) ▸ λ c. (refl ▸ refl ▸ tt) ▸ refuses rs d (c .1) (rw (e .5) at small) (c .5))
+    -- the loop: what holds at first
+    ▸ λ large.
+    let room : ltb (length d) (4 * length rs) ≡ false = rw (e .5) at large in
+    ((d, 0), refl, begins rs d) ▸ λ vs inv. tt
+    -- a turn: the rectangle is read, and put, of which c is learnt
+    ▸ (λ go g.
+    let below = ltb-true (vs .1) (length rs) go in
+    refl ▸ scaled-fits (vs .1) (length rs) 16 below (good .0 .1) ▸ tt ▸ (refl, refl, below) ▸ λ g′. (λ κ. reaches rs d room (vs .0) (vs .1) inv go) ▸ λ c. refl ▸ λ g″. search needs
+    ▸ (length rs - (vs .1 + 1), less (length rs) (vs .1) go, ((c .2 .0, vs .1 + 1), refl, again rs d room (vs .0) (c .2 .0) (vs .1) Rect.none inv go (c .5), refl)))
+    -- the end
+    ▸ λ stop. (refl ▸ fix-len (a .1 .0 .ptr) (a .1 .0 .name) (vs .0) d (inv .1) ▸ tt) ▸ ends rs d room (vs .0) (vs .1) inv stop
 
 pub copy-obstacles-spec : {M : Type 1} → statement M
 unfolding code.routine tablesOf

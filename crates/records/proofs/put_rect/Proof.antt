@@ -1,3 +1,4 @@
+-- `records::put_rect` meets its contract. Assumes nothing.
 use Prim.Native.Nat.{ℕ, _+_, _*_, _<_}
 use mathlib.Core.List.{List}
 use lib.IntN.{ℤ}
