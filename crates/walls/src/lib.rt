@@ -41,7 +41,7 @@ fn validate_check(
 }
 
 // What stands beside a refusal.
-fn no_check() -> WallCheck
+pub fn no_check() -> WallCheck
     ensures { λ r. ⌜ r ≡ noCheck ⌝ }
 {
     let rect = PixelRect {

@@ -1,0 +1,8 @@
+-- The laws that the proofs of this crate share.
+pub mod Words
+pub mod Fill
+pub mod Onward
+pub mod Rect
+pub mod Asking
+pub mod Values
+pub mod Copying
