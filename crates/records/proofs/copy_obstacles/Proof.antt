@@ -49,7 +49,7 @@ asked κs qs a good pre bs =
     -- the loop: what holds at first
     ▸ λ large.
     let room : ltb (length d) (4 * length rs) ≡ false = rw (e .5) at large in
-    ((d, 0), refl, begins rs d) ▸ λ vs inv. tt
+    ((d, walk.first), refl, begins rs d) ▸ λ vs inv. tt
     -- a turn: the rectangle is read, and put, of which c is learnt
     ▸ (λ go g.
     let below = ltb-true (vs .1) (length rs) go in

@@ -3,8 +3,6 @@ use Prim.Native.Nat.{ℕ, _+_, _*_, _<_}
 use mathlib.Core.List.{List}
 use lib.IntN.{ℤ}
 use lib.ListN.{length, set, length-set}
-use mir.Syntax.{w32}
-use mir.Val.{toZ, ofZ}
 use borrow.Author.Needs.{needs}
 use native.Mathlib.Omega.{arith}
 use Rattle.records.proofs.put_rect.Statement.{statement}
@@ -32,7 +30,7 @@ mul-top : tie.Need-mul-top
 mul-top c = search needs
 
 slice-set-from-top : tie.Need-slice-set-from-top
-slice-set-from-top c = below-1 (c .before .before .before .before .args .words .now) (c .before .before .before .before .args .k) (toZ w32 (ofZ w32 (c .before .before .before .before .args .r .left))) (c .before .before .before .before .pre)
+slice-set-from-top c = let start = c .before .before .before .before in below-1 (start .args .words .now) (start .args .k) _ (start .pre)
 
 add-right : tie.Need-add-right
 add-right c = search needs
@@ -41,7 +39,7 @@ mul-right : tie.Need-mul-right
 mul-right c = search needs
 
 slice-set-from-right : tie.Need-slice-set-from-right
-slice-set-from-right c = below-2 (c .before .before .before .before .args .words .now) (c .before .before .before .before .args .k) (toZ w32 (ofZ w32 (c .before .before .before .before .args .r .left))) (toZ w32 (ofZ w32 (c .before .before .before .before .args .r .top))) (c .before .before .before .before .pre)
+slice-set-from-right c = let start = c .before .before .before .before in below-2 (start .args .words .now) (start .args .k) _ _ (start .pre)
 
 add-bottom : tie.Need-add-bottom
 add-bottom c = search needs

@@ -245,7 +245,7 @@ abbrev Φ-done : TF T-loop O
     frees (T (whole values.outcome-row) no-num num no-num no-num no-test no-test) 4 usize (atRet O Ψ)))
 
 -- the first rectangle to be copied
-abbrev first : ℕ
+abbrev pub first : ℕ
 first = 0
 
 -- `let mut i = 0;`, the loop, and what follows
