@@ -257,11 +257,13 @@ fn main() {
         Some("store") => print!("{}", store::sample(55, 30, 5)),
         Some("program") => {
             let (path, times) = (args.get(1).expect("the program's path"), number(2, 2000));
-            if let Err(e) = program::compare(path, 89, times) {
-                println!("DIFFERENCE of the program: {e}");
-                exit(1);
+            match program::compare(path, 89, times) {
+                Ok(seen) => println!("{seen:?}\n{times} runs of the program compared: no difference"),
+                Err(e) => {
+                    println!("DIFFERENCE of the program: {e}");
+                    exit(1);
+                }
             }
-            println!("{times} runs of the program compared: no difference");
         }
         _ => {
             eprintln!("compare run [QUERIES] | program PATH [TIMES] | store");

@@ -5,6 +5,7 @@ use crate::oracle::{ask, refuse, Refusal};
 use crate::random::Random;
 use original::walls::{PlacementIssue, WallCheck};
 use original::PixelRect;
+use std::collections::BTreeMap;
 use std::io::Write;
 use std::process::{Command, Stdio};
 
@@ -68,9 +69,10 @@ fn query(r: &mut Random) -> Vec<u8> {
     }
 }
 
-/// Runs it so many times. The first text that differs is an error.
-pub fn compare(program: &str, seed: u64, times: usize) -> Result<(), String> {
+/// Runs it so many times, and answers how often each first line was seen. The first text that differs is an error.
+pub fn compare(program: &str, seed: u64, times: usize) -> Result<BTreeMap<String, usize>, String> {
     let mut r = Random::new(seed);
+    let mut seen = BTreeMap::new();
     for _ in 0..times {
         let bytes = query(&mut r);
         let mut child = Command::new(program).stdin(Stdio::piped()).stdout(Stdio::piped()).spawn().map_err(|e| format!("{program}: {e}"))?;
@@ -80,6 +82,8 @@ pub fn compare(program: &str, seed: u64, times: usize) -> Result<(), String> {
         if out.stdout != wanted(&bytes).as_bytes() || !out.status.success() {
             return Err(format!("{bytes:02x?}: {} and\n{}wanted\n{}", out.status, String::from_utf8_lossy(&out.stdout), wanted(&bytes)));
         }
+        let text = String::from_utf8_lossy(&out.stdout);
+        *seen.entry(text.lines().next().unwrap_or("").to_string()).or_default() += 1;
     }
-    Ok(())
+    Ok(seen)
 }

@@ -37,6 +37,7 @@ fn word_at(words: &[u64], k: usize) -> u32
     }
 }
 
+// Word k and the next. Here and below k is a place in a query, so that what is added to it still is one.
 fn point_at(words: &[u64], k: usize) -> PixelPosition
     requires { ⌜ k < 1000 ⌝ }
     ensures { λ r. ⌜ r ≡ pointAt (now (words .entry)) k ⌝ }
