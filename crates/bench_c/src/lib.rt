@@ -143,8 +143,8 @@ pub extern "C" fn bench_c_repeat(
         return 0;
     }
     let n = w * h;
-    route::clear(parents, n);
-    route::clear(queue, n);
+    grid::clear(parents, n);
+    grid::clear(queue, n);
     repeat(marks, w, h, parents, queue, out, start, end, times)
 }
 

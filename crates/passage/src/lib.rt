@@ -132,8 +132,8 @@ fn judged(
     let top = frame.top as usize;
     let n = w * h;
     let both = n + n;
-    route::clear(parents, n);
-    route::clear(queue, n);
+    grid::clear(parents, n);
+    grid::clear(queue, n);
     judge(
         &marks[..n],
         &marks[n..both],

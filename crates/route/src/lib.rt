@@ -101,18 +101,6 @@ fn write_route(
     out[0] = point(left, top, w, h, start);
 }
 
-// Makes the first n numbers of an area zero.
-pub fn clear(area: &mut [u32], n: usize)
-    requires { ⌜ n ≤ length (now area) ⌝ }
-    ensures { λ _. ⌜ now (area .exit) ≡ cleared n (now (area .entry)) ⌝ }
-{
-    let mut i = 0;
-    while i < n {
-        area[i] = 0;
-        i += 1;
-    }
-}
-
 // Makes the parents of the first `used` places of the queue zero.
 fn forget_places(parents: &mut [u32], queue: &[u32], used: usize)
     requires { ⌜ Listed (now queue) (now parents) used × (used ≤ length (now queue)) ⌝ }
@@ -137,7 +125,7 @@ fn forget(parents: &mut [u32], queue: &[u32], used: usize)
         return;
     }
     let n = parents.len();
-    clear(parents, n);
+    grid::clear(parents, n);
 }
 
 // Makes the working areas zero again after a search that used the first `used` entries of the queue.
@@ -146,7 +134,7 @@ fn tidy(parents: &mut [u32], queue: &mut [u32], used: usize)
     ensures { λ _. ⌜ (now (parents .exit) ≡ replicate (length (now (parents .entry))) 0) × (now (queue .exit) ≡ replicate (length (now (queue .entry))) 0) ⌝ }
 {
     forget(parents, queue, used);
-    clear(queue, used);
+    grid::clear(queue, used);
 }
 
 // Whether both ends are free.
@@ -334,8 +322,8 @@ pub fn route(
     ensures { λ r. ⌜ Searched (Clear (now (marks .entry)) left top w h) start end (cleared (w * h) (now (parents .entry))) (now (parents .exit)) (cleared (w * h) (now (queue .entry))) (now (queue .exit)) (now (out .entry)) (now (out .exit)) r ⌝ }
 {
     let n = w * h;
-    clear(parents, n);
-    clear(queue, n);
+    grid::clear(parents, n);
+    grid::clear(queue, n);
     find_route(marks, w, h, left, top, parents, queue, out, start, end)
 }
 
@@ -356,7 +344,7 @@ pub fn connected(
     ensures { λ r. ⌜ Asked (Clear (now (marks .entry)) left top w h) start end (cleared (w * h) (now (parents .entry))) (now (parents .exit)) (cleared (w * h) (now (queue .entry))) (now (queue .exit)) r ⌝ }
 {
     let n = w * h;
-    clear(parents, n);
-    clear(queue, n);
+    grid::clear(parents, n);
+    grid::clear(queue, n);
     find_chain(marks, w, h, left, top, parents, queue, start, end)
 }
