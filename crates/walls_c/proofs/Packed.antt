@@ -20,7 +20,7 @@ use Rattle.model.proofs.Enough.{read-enough}
 use Rattle.model.proofs.Lists.{table-length}
 use Rattle.model.proofs.Valid.{none-both}
 use Rattle.numbers.proofs.Lists.{front-length}
-use Rattle.packed.proofs.Fields.{field-lt}
+use Rattle.bits.proofs.Fields.{field-lt}
 use Rattle.words.specs.Words.{number, checkWords, written}
 use Rattle.walls_c.specs.Held.{Held}
 use Rattle.walls_c.specs.Said.{Follows, PackedSaid}
