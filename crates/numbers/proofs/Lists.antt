@@ -5,8 +5,8 @@ use mathlib.Core.List.{List, [], _∷_, _++_, map, append-assoc}
 use Prim.Native.Nat.{ℕ, zero, suc, _+_, _-_, _≤_, _<_}
 use native.Mathlib.Numerals.{add-one}
 use native.Mathlib.Omega.{arith}
-use lib.ListN.{length, take, drop, getD, set, replicate, length-append, length-drop}
-use lib.Seq.{drop-cons, set-at, take-suc, getD-drop, ext-getD}
+use lib.ListN.{length, drop, getD, set, replicate, length-append, length-drop}
+use lib.Seq.{drop-cons, set-at, getD-drop, ext-getD}
 
 module _ {A : Type 0} where
   -- a store behind the front
@@ -18,28 +18,17 @@ module _ {A : Type 0} where
   pub front-length : (front d : List A) (n : ℕ) → length front ≡ n → n ≤ length d → length (front ++ drop n d) ≡ length d
   front-length front d n e h = simp (length-append, length-drop) (omega arith)
 
-  -- ---- one copy more
-  pub replicate-next : (n : ℕ) (v : A) → replicate (n + 1) v ≡ replicate n v ++ (v ∷ [])
-  replicate-next n v = rw (add-one n) (ends n)
-    where
-      ends : (k : ℕ) → replicate (suc k) v ≡ replicate k v ++ (v ∷ [])
-      ends zero = refl
-      ends (suc k) = ap (λ (l : List A). v ∷ l) (ends k)
-
   -- what is left of n copies
   pub drop-replicate : (i n : ℕ) (v : A) → drop i (replicate n v) ≡ replicate (n - i) v
   drop-replicate zero n v = let e : n ≡ n - 0 = omega arith in ap (λ (m : ℕ). replicate m v) e
   drop-replicate (suc i) zero v = let e : 0 ≡ 0 - suc i = omega arith in ap (λ (m : ℕ). replicate m v) e
   drop-replicate (suc i) (suc n) v = let e : n - i ≡ suc n - suc i = omega arith in drop-replicate i n v ∙ ap (λ (m : ℕ). replicate m v) e
 
--- ---- one element more of a list mapped
+-- ---- lists mapped
 module _ {A B : Type 0} (f : A → B) where
   pub map-append : (a b : List A) → map f (a ++ b) ≡ map f a ++ map f b
   map-append [] b = refl
   map-append (x ∷ a) b = ap (λ (l : List B). f x ∷ l) (map-append a b)
-
-  pub map-next : (l : List A) (n : ℕ) (d : A) → n < length l → map f (take (n + 1) l) ≡ map f (take n l) ++ (f (getD l n d) ∷ [])
-  map-next l n d h = rw (add-one n, take-suc l n d h) (map-append (take n l) (getD l n d ∷ []))
 
 -- two lists of one length that agree from n on have the same rest
 pub same-rest : {A : Type 0} (z : A) (n : ℕ) (a b : List A) → length a ≡ length b → ((k : ℕ) → n ≤ k → getD a k z ≡ getD b k z) → drop n a ≡ drop n b

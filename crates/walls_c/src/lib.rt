@@ -9,11 +9,6 @@ ghost use Rattle.walls_c.specs.Said.{CheckSaid, TestSaid, ReadSaid, Pack
 ghost use Rattle.walls_c.specs.Held.{Held};
 use model::Outcome;
 use model::PackedQuery;
-use model::Passed;
-use model::PixelRect;
-use model::WallCheck;
-use model::WallPassage;
-use model::WallPlacement;
 use model::WallReply;
 
 // Checks the query that the words say, with this many buildings, in the areas 2 to 8.
@@ -104,27 +99,7 @@ pub extern "C" fn walls_c_test_route(
 fn refused(outcome: Outcome) -> WallReply
     ensures { λ r. ⌜ r ≡ record { outcome = outcome; check = noCheck } ⌝ }
 {
-    let rect = PixelRect {
-        left: 0,
-        top: 0,
-        right: 0,
-        bottom: 0,
-    };
-    let none = WallPlacement {
-        footprint: rect,
-        collision: rect,
-        issues: 0,
-    };
-    let passed = Passed {
-        passage: WallPassage::StartBlocked,
-        baseline_passable: false,
-        points: 0,
-    };
-    let check = WallCheck {
-        placements: [none; 32],
-        passed,
-        window: rect,
-    };
+    let check = walls::no_check();
     WallReply { outcome, check }
 }
 
