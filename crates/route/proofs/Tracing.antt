@@ -2,14 +2,16 @@
 use mathlib.Core.Path.{_≡_, refl, ap, sym, subst, _∙_}
 use mathlib.Core.List.{List, [], _∷_, _++_, map, append-assoc, append-nil}
 use Prim.Native.Nat.{ℕ, suc, _+_, _-_, _<_, _≤_}
+use native.Mathlib.Decide.{decLt}
 use native.Mathlib.Omega.{arith}
-use lib.ListN.{length, getD, set, drop, length-append, length-set}
-use lib.Seq.{drop-cons, drop-set-lt, getD-set-same}
+use lib.ListN.{length, getD, set, take, drop, length-append, length-map, List·getD-append}
+use lib.Seq.{getD-append-add, take-at, drop-at}
+use Rattle.numbers.proofs.Lists.{store-next, front-length, map-append}
 use Rattle.model.specs.Steps.{pointWord}
 use Rattle.search.specs.Places.{spot}
 use Rattle.route.proofs.Zeros.{some-in}
 use Rattle.search.specs.Search.{Trail, begin, back}
-use Rattle.route.specs.Trails.{Tracked, Written}
+use Rattle.route.specs.Trails.{Laid, Written, turned}
 
 module _ {parents : List ℕ} {s : ℕ} where
   pub trail-some : {q : ℕ} {ps : List ℕ} → Trail parents s q ps → 1 ≤ length ps
@@ -38,116 +40,112 @@ trail-back : {parents : List ℕ} {s q : ℕ} {qs : List ℕ} → Trail parents 
 trail-back begin n = absurd (n refl)
 trail-back {parents} (back {p = p} {q = q} {ps = ps} t m l) n = record { p = p; ps = ps; trail = t; link = l; last = refl; within = some-in parents q (omega (arith, l)) }
 
-drop-write : (l : List ℕ) (j v : ℕ) → j < length l → drop j (set l j v) ≡ v ∷ drop (suc j) l
-drop-write l j v h =
-    let k : j < length (set l j v) = omega (arith, length-set l j v) in
-    let m : j < suc j = omega arith in
-    drop-cons (set l j v) j 0 k ∙ ap (λ (x : ℕ). x ∷ drop (suc j) (set l j v)) (getD-set-same l j v 0 h) ∙ ap (λ (x : List ℕ). v ∷ x) (drop-set-lt (suc j) l j v m)
+-- ---- lists turned round
+turned-next : (l : List ℕ) (x : ℕ) → turned (l ++ (x ∷ [])) ≡ x ∷ turned l
+turned-next [] x = refl
+turned-next (y ∷ l) x = ap (λ (r : List ℕ). r ++ (y ∷ [])) (turned-next l x)
 
--- n places have been passed on the way from e back to p
-pub record Counting (parents : List ℕ) (s e n p : ℕ) : Type 0 where
+pub turned-length : (l : List ℕ) → length (turned l) ≡ length l
+turned-length [] = refl
+turned-length (x ∷ l) = length-append (turned l) (x ∷ []) ∙ omega (arith, turned-length l)
+
+turned-map : (f : ℕ → ℕ) (l : List ℕ) → turned (map f l) ≡ map f (turned l)
+turned-map f [] = refl
+turned-map f (x ∷ l) = ap (λ (r : List ℕ). r ++ (f x ∷ [])) (turned-map f l) ∙ sym (map-append f (turned l) (x ∷ []))
+
+pub turned-at : (l : List ℕ) (k : ℕ) → k < length l → getD (turned l) k 0 ≡ getD l (length l - 1 - k) 0
+turned-at (x ∷ l) k h = split (turned-at l k) (decLt k (length l))
+  where
+    split : (k < length l → getD (turned l) k 0 ≡ getD l (length l - 1 - k) 0) → Dec (k < length l) → getD (turned l ++ (x ∷ [])) k 0 ≡ getD (x ∷ l) (suc (length l) - 1 - k) 0
+    split before (yes m) =
+        let e : suc (length l) - 1 - k ≡ suc (length l - 1 - k) = omega (arith, m) in
+        List·getD-append (turned l) (x ∷ []) 0 k (omega (arith, m, turned-length l)) ∙ before m ∙ ap (λ (j : ℕ). getD (x ∷ l) j 0) (sym e)
+    split before (no m) =
+        let e : k ≡ length (turned l) + 0 = omega (arith, m, h, turned-length l) in
+        let z : 0 ≡ suc (length l) - 1 - k = omega (arith, m, h) in
+        ap (λ (j : ℕ). getD (turned l ++ (x ∷ [])) j 0) e ∙ getD-append-add (turned l) (x ∷ []) 0 0 ∙ ap (λ (j : ℕ). getD (x ∷ l) j 0) z
+
+-- ---- the words of the places after p are written, those of e first
+pub record Laying (parents : List ℕ) (s e left top w : ℕ) (before out : List ℕ) (n p : ℕ) : Type 0 where
   pub places : List ℕ
   pub trail : Trail parents s e places
   pub short : length places ≤ length parents
-  pub rest : List ℕ
-  pub rest-trail : Trail parents s p rest
-  pub sum : length rest + n ≡ length places + 1
-
--- the words of the places after p are written from i on
-pub record Writing (parents : List ℕ) (s e left top w n : ℕ) (before out : List ℕ) (i p : ℕ) : Type 0 where
-  pub places : List ℕ
-  pub trail : Trail parents s e places
-  pub count : length places ≡ n
   pub ahead : List ℕ
   pub ahead-trail : Trail parents s p ahead
-  pub ahead-count : length ahead ≡ i
-  pub behind : List ℕ
-  pub whole : places ≡ ahead ++ behind
-  pub words : drop i out ≡ map (λ q. pointWord (spot left top w q)) behind ++ drop n before
-  pub long : length out ≡ length before
-  pub room : n ≤ length before
+  pub laid : List ℕ
+  pub count : length laid ≡ n
+  pub whole : places ≡ ahead ++ turned laid
+  pub words : out ≡ map (λ q. pointWord (spot left top w q)) laid ++ drop n before
+  pub room : length parents ≤ length before
 
-pub writing-begun : {parents : List ℕ} {s e left top w n : ℕ} (out : List ℕ) → Tracked parents s e n → n ≤ length out → Writing parents s e left top w n out out n e
-writing-begun out T room = record {
-  places = T .places;
-  trail = T .trail;
-  count = T .count;
-  ahead = T .places;
-  ahead-trail = T .trail;
-  ahead-count = T .count;
-  behind = [];
-  whole = sym (append-nil (T .places));
-  words = refl;
-  long = refl;
-  room = room;
-}
+pub laying-begun : {parents : List ℕ} {s e left top w : ℕ} (out : List ℕ) {places : List ℕ} → Trail parents s e places → length places ≤ length parents → length parents ≤ length out → Laying parents s e left top w out out 0 e
+laying-begun out {places} t short room = record { places = places; trail = t; short = short; ahead = places; ahead-trail = t; laid = []; count = refl; whole = sym (append-nil places); words = refl; room = room }
 
-module _ {parents : List ℕ} {s e n p : ℕ} (C : Counting parents s e n p) where
-  pub counted-all : p ≡ s → Tracked parents s e n
-  counted-all h =
-      let one = trail-one (rw h at (C .rest-trail)) begin in
-      record { places = C .places; trail = C .trail; count = omega (arith, C .sum, ap length one) }
+module _ {parents : List ℕ} {s e left top w n p : ℕ} {before out : List ℕ} (L : Laying parents s e left top w before out n p) where
+  -- as many places were passed as words stand there, and there is room for one more
+  lengths : length (L .ahead) + n ≡ length (L .places)
+  lengths = omega (arith, L .count, turned-length (L .laid), length-append (L .ahead) (turned (L .laid)), ap length (L .whole))
 
-  module _ (other : p ≡ s → ⊥) where
-    pub counting-more : (p < length parents) × (1 ≤ getD parents p 0) × (n < length parents)
-    counting-more =
-        let b = trail-back (C .rest-trail) other in
-        (b .within, omega (arith, b .link), omega (arith, C .sum, C .short, simp length-append at (ap length (b .last)), trail-some (b .trail)))
+  pub laying-room : n < length parents
+  laying-room = omega (arith, lengths, L .short, trail-some (L .ahead-trail))
 
-    pub counting-next : Counting parents s e (n + 1) (getD parents p 0 - 1)
-    counting-next =
-        let b = trail-back (C .rest-trail) other in
-        let q : b .p ≡ getD parents p 0 - 1 = omega (arith, b .link) in
-        record {
-          places = C .places;
-          trail = C .trail;
-          short = C .short;
-          rest = b .ps;
-          rest-trail = subst (λ (r : ℕ). Trail parents s r (b .ps)) q (b .trail);
-          sum = omega (arith, C .sum, simp length-append at (ap length (b .last)));
-        }
+  pub laying-long : length out ≡ length before
+  laying-long = ap length (L .words) ∙ front-length (map (λ q. pointWord (spot left top w q)) (L .laid)) before n (length-map (L .laid) (λ q. pointWord (spot left top w q)) ∙ L .count) (omega (arith, laying-room, L .room))
 
-module _ {parents : List ℕ} {s e left top w n i p : ℕ} {before out : List ℕ} (W : Writing parents s e left top w n before out i p) where
-  pub written-all : p ≡ s → Written parents s e left top w n before (set out 0 (pointWord (spot left top w s)))
-  written-all h =
-      let one = trail-one (rw h at (W .ahead-trail)) begin in
-      let at-one : i ≡ 1 = omega (arith, W .ahead-count, ap length one) in
-      let parts : W .places ≡ s ∷ W .behind = W .whole ∙ ap (λ (l : List ℕ). l ++ W .behind) one in
-      record {
-        places = W .places;
-        trail = W .trail;
-        count = W .count;
-        words = drop-write out 0 (pointWord (spot left top w s)) (omega (arith, W .long, W .room, W .count, ap length parts))
-            ∙ ap (λ (l : List ℕ). pointWord (spot left top w s) ∷ l) (ap (λ (k : ℕ). drop k out) (sym at-one) ∙ W .words)
-            ∙ ap (λ (l : List ℕ). map (λ q. pointWord (spot left top w q)) l ++ drop n before) (sym parts);
-      }
+  -- one word more
+  stored : (v : ℕ) → set out n (pointWord (spot left top w v)) ≡ map (λ q. pointWord (spot left top w q)) (L .laid ++ (v ∷ [])) ++ drop (n + 1) before
+  stored v =
+      ap (λ (l : List ℕ). set l n (pointWord (spot left top w v))) (L .words)
+      ∙ store-next (map (λ q. pointWord (spot left top w q)) (L .laid)) before n (pointWord (spot left top w v)) (length-map (L .laid) (λ q. pointWord (spot left top w q)) ∙ L .count) (omega (arith, laying-room, L .room))
+      ∙ ap (λ (l : List ℕ). l ++ drop (n + 1) before) (sym (map-append (λ q. pointWord (spot left top w q)) (L .laid) (v ∷ [])))
+
+  one-more : (v : ℕ) → length (L .laid ++ (v ∷ [])) ≡ n + 1
+  one-more v = omega (arith, length-append (L .laid) (v ∷ []), L .count)
+
+  pub laid-all : p ≡ s → Laid parents s e left top w (n + 1) before (set out n (pointWord (spot left top w s)))
+  laid-all h =
+      let one = trail-one (rw h at (L .ahead-trail)) begin in
+      let parts : L .places ≡ turned (L .laid ++ (s ∷ [])) = L .whole ∙ ap (λ (l : List ℕ). l ++ turned (L .laid)) one ∙ sym (turned-next (L .laid) s) in
+      record { laid = L .laid ++ (s ∷ []); trail = subst (Trail parents s e) parts (L .trail); count = one-more s; words = stored s }
 
   module _ (other : p ≡ s → ⊥) where
-    pub writing-more : (p < length parents) × (1 ≤ getD parents p 0) × (1 < i) × (i ≤ length before)
-    writing-more =
-        let b = trail-back (W .ahead-trail) other in (
-          b .within,
-          omega (arith, b .link),
-          omega (arith, W .ahead-count, simp length-append at (ap length (b .last)), trail-some (b .trail)),
-          omega (arith, W .room, W .count, W .ahead-count, simp length-append at (ap length (W .whole))),
-        )
+    pub laying-more : (p < length parents) × (1 ≤ getD parents p 0)
+    laying-more = let b = trail-back (L .ahead-trail) other in (b .within, omega (arith, b .link))
 
-    pub writing-next : Writing parents s e left top w n before (set out (i - 1) (pointWord (spot left top w p))) (i - 1) (getD parents p 0 - 1)
-    writing-next =
-        let b = trail-back (W .ahead-trail) other in
+    pub laying-next : Laying parents s e left top w before (set out n (pointWord (spot left top w p))) (n + 1) (getD parents p 0 - 1)
+    laying-next =
+        let b = trail-back (L .ahead-trail) other in
         let q : b .p ≡ getD parents p 0 - 1 = omega (arith, b .link) in
-        let up : suc (i - 1) ≡ i = omega (arith, writing-more .2) in
         record {
-          places = W .places;
-          trail = W .trail;
-          count = W .count;
+          places = L .places;
+          trail = L .trail;
+          short = L .short;
           ahead = b .ps;
           ahead-trail = subst (λ (r : ℕ). Trail parents s r (b .ps)) q (b .trail);
-          ahead-count = omega (arith, W .ahead-count, simp length-append at (ap length (b .last)));
-          behind = p ∷ W .behind;
-          whole = W .whole ∙ ap (λ (l : List ℕ). l ++ W .behind) (b .last) ∙ append-assoc (b .ps) (p ∷ []) (W .behind);
-          words = drop-write out (i - 1) (pointWord (spot left top w p)) (omega (arith, W .long, writing-more .2, writing-more .3))
-              ∙ ap (λ (l : List ℕ). pointWord (spot left top w p) ∷ l) (ap (λ (k : ℕ). drop k out) up ∙ W .words);
-          long = length-set out (i - 1) (pointWord (spot left top w p)) ∙ W .long;
-          room = W .room;
+          laid = L .laid ++ (p ∷ []);
+          count = one-more p;
+          whole = L .whole ∙ ap (λ (l : List ℕ). l ++ turned (L .laid)) (b .last) ∙ append-assoc (b .ps) (p ∷ []) (turned (L .laid)) ∙ ap (λ (l : List ℕ). b .ps ++ l) (sym (turned-next (L .laid) p));
+          words = stored p;
+          room = L .room;
         }
+
+-- ---- what is laid and then turned round is the route
+pub turned-written : {parents : List ℕ} {s e left top w n : ℕ} {before mid after : List ℕ} → Laid parents s e left top w n before mid → after ≡ turned (take n mid) ++ drop n mid → Written parents s e left top w n before after
+turned-written {left = left} {top = top} {w = w} {n = n} {before = before} {mid = mid} l e =
+    let f : ℕ → ℕ = λ q. pointWord (spot left top w q) in
+    let front : length (map f (l .laid)) ≡ n = length-map (l .laid) f ∙ l .count in
+    record {
+      places = turned (l .laid);
+      trail = l .trail;
+      count = turned-length (l .laid) ∙ l .count;
+      words = e
+          ∙ ap (λ (m : List ℕ). turned (take n m) ++ drop n m) (l .words)
+          ∙ ap (λ (m : List ℕ). turned m ++ drop n (map f (l .laid) ++ drop n before)) (take-at (map f (l .laid)) (drop n before) n front)
+          ∙ ap (λ (m : List ℕ). turned (map f (l .laid)) ++ m) (drop-at (map f (l .laid)) (drop n before) n front)
+          ∙ ap (λ (m : List ℕ). m ++ drop n before) (turned-map f (l .laid));
+    }
+
+pub laid-room : {parents : List ℕ} {s e left top w n : ℕ} {before after : List ℕ} → Laid parents s e left top w n before after → n ≤ length after
+laid-room {left = left} {top = top} {w = w} {n = n} {before = before} l =
+    let f : ℕ → ℕ = λ q. pointWord (spot left top w q) in
+    omega (arith, l .count, ap length (l .words), length-append (map f (l .laid)) (drop n before), length-map (l .laid) f)

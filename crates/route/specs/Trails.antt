@@ -1,7 +1,7 @@
 -- What the route's parts say: the way back along the parents, what is written of it, and whether both ends are free. Assumes nothing.
 use mathlib.Core.Path.{_≡_}
 use mathlib.Core.Bool.{Bool, true, false}
-use mathlib.Core.List.{List, _++_, map}
+use mathlib.Core.List.{List, [], _∷_, _++_, map}
 use Prim.Native.Nat.{ℕ, _^_, _<_}
 use lib.ListN.{length, drop}
 use Rattle.model.specs.declared.PixelPosition.{PixelPosition}
@@ -17,11 +17,17 @@ pub record Short (h : Hop) : Type 0 where
   pub up : h .up < 2 ^ 62
   pub down : h .down < 2 ^ 62
 
--- Following the parents from e ends at s after n places.
-pub record Tracked (parents : List ℕ) (s e n : ℕ) : Type 0 where
-  pub places : List ℕ
-  pub trail : Trail parents s e places
-  pub count : length places ≡ n
+-- a list from its end to its start
+abbrev pub turned : List ℕ → List ℕ
+turned [] = []
+turned (x ∷ xs) = turned xs ++ (x ∷ [])
+
+-- The n places that the parents pass from s to e are written as words from e on, and the rest stays.
+pub record Laid (parents : List ℕ) (s e left top w n : ℕ) (before after : List ℕ) : Type 0 where
+  pub laid : List ℕ
+  pub trail : Trail parents s e (turned laid)
+  pub count : length laid ≡ n
+  pub words : after ≡ map (λ p. pointWord (spot left top w p)) laid ++ drop n before
 
 -- The n places that the parents pass from s to e are written as words, and the rest stays.
 pub record Written (parents : List ℕ) (s e left top w n : ℕ) (before after : List ℕ) : Type 0 where

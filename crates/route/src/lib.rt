@@ -3,15 +3,15 @@
 // Places, marks, parents and the queue are those of the search.
 ghost use mathlib.Core.Path.{_≡_};
 ghost use mathlib.Core.Bool.{true};
-ghost use mathlib.Core.List.{List};
+ghost use mathlib.Core.List.{List, _++_};
 ghost use Prim.Native.Nat.{ℕ, _+_, _*_, _^_, _<_, _≤_};
-ghost use lib.ListN.{length, replicate};
+ghost use lib.ListN.{length, take, drop, replicate};
 ghost use Rattle.model.specs.Steps.{pointWord};
 ghost use Rattle.model.specs.Areas.{cleared};
 ghost use Rattle.marks.specs.Marks.{Unmarked};
 ghost use Rattle.search.specs.Places.{center, spot, Areas, Blank};
 ghost use Rattle.search.specs.Search.{Listed, Trail};
-ghost use Rattle.route.specs.Trails.{Short, Tracked, Written, Told, Opens};
+ghost use Rattle.route.specs.Trails.{Short, Laid, Told, Opens, turned};
 ghost use Rattle.route.specs.Answer.{Says, Clear, Window, Inside, Lent, Searched, Asked};
 use model::PixelPosition;
 use search::wide;
@@ -48,22 +48,6 @@ fn hop_back(last: Hop, at: usize, back: usize) -> Hop
     }
 }
 
-// The number of places that the parents pass from `end` back to `start`.
-fn trail_length(parents: &[u32], start: usize, end: usize) -> usize
-    requires { ⌜ ((ps : List ℕ) × Trail (now parents) start end ps × (length ps ≤ length (now parents))) ⌝ }
-    ensures { λ r. ⌜ Tracked (now (parents .entry)) start end r ⌝ }
-{
-    let mut n = 1;
-    let mut at = end;
-    let mut hop = Hop { up: 0, down: 0 };
-    while at != start {
-        hop = hop_back(hop, at, wide(parents[at]));
-        at = at + hop.up - hop.down;
-        n += 1;
-    }
-    n
-}
-
 // The word of the point at place p.
 fn point(left: usize, top: usize, w: usize, h: usize, p: usize) -> u32
     requires { ⌜ Window left top w h × (p < w * h) ⌝ }
@@ -72,8 +56,8 @@ fn point(left: usize, top: usize, w: usize, h: usize, p: usize) -> u32
     ((left + p % w) * 65536 + (top + p / w)) as u32
 }
 
-// Writes the words of the n places that the parents pass from `end` back to `start`, from the back.
-fn write_route(
+// Writes the words of the places that the parents pass from `end` back to `start`, the end's first. Returns their number.
+fn write_back(
     parents: &[u32],
     out: &mut [u32],
     left: usize,
@@ -82,23 +66,39 @@ fn write_route(
     h: usize,
     start: usize,
     end: usize,
-    n: usize,
-)
+) -> usize
     requires { ⌜ Window left top w h ⌝ }
-    requires { ⌜ (length (now parents) ≡ w * h) × (start < w * h) ⌝ }
-    requires { ⌜ Tracked (now parents) start end n × (n ≤ length (now out)) ⌝ }
-    ensures { λ _. ⌜ Written (now (parents .entry)) start end left top w n (now (out .entry)) (now (out .exit)) ⌝ }
+    requires { ⌜ (length (now parents) ≡ w * h) × (w * h ≤ length (now out)) × (start < w * h) ⌝ }
+    requires { ⌜ ((ps : List ℕ) × Trail (now parents) start end ps × (length ps ≤ length (now parents))) ⌝ }
+    ensures { λ r. ⌜ Laid (now (parents .entry)) start end left top w r (now (out .entry)) (now (out .exit)) ⌝ }
 {
-    let mut i = n;
+    let mut n = 0;
     let mut p = end;
     let mut hop = Hop { up: 0, down: 0 };
     while p != start {
-        i -= 1;
-        out[i] = point(left, top, w, h, p);
+        out[n] = point(left, top, w, h, p);
+        n += 1;
         hop = hop_back(hop, p, wide(parents[p]));
         p = p + hop.up - hop.down;
     }
-    out[0] = point(left, top, w, h, start);
+    out[n] = point(left, top, w, h, start);
+    n + 1
+}
+
+// Turns the first n words round.
+fn turn(out: &mut [u32], n: usize)
+    requires { ⌜ n ≤ length (now out) ⌝ }
+    ensures { λ _. ⌜ now (out .exit) ≡ turned (take n (now (out .entry))) ++ drop n (now (out .entry)) ⌝ }
+{
+    let half = n / 2;
+    let mut i = 0;
+    while i < half {
+        let j = n - 1 - i;
+        let word = out[i];
+        out[i] = out[j];
+        out[j] = word;
+        i += 1;
+    }
 }
 
 // Makes the parents of the first `used` places of the queue zero.
@@ -168,8 +168,8 @@ fn tell(
     if !found {
         return Way::NoWay;
     }
-    let n = trail_length(parents, start, end);
-    write_route(parents, out, left, top, w, h, start, end, n);
+    let n = write_back(parents, out, left, top, w, h, start, end);
+    turn(out, n);
     Way::Found(n)
 }
 
