@@ -6,10 +6,8 @@ use native.Mathlib.Nat.{mul-le-mul}
 use native.Mathlib.Omega.{arith}
 use lib.Dec.{T}
 use lib.IntN.{pos, natAbs, _-ℤ_}
-use borrow.Author.Tests.{le-leb}
 use Rattle.numbers.proofs.Integers.{ints, sub-nat, abs-nat, apart}
-use Rattle.model.specs.Boxes.{inMap}
-use Rattle.model.proofs.Valid.{Windowed}
+use Rattle.model.specs.Accepted.{Windowed}
 use Rattle.model.specs.declared.PixelPosition.{PixelPosition}
 use Rattle.model.specs.Areas.{differenceRoom, markRoom}
 use Rattle.route.specs.Answer.{Window, Inside}
@@ -34,22 +32,17 @@ size-of : (start size : ℕ) → natAbs (pos (start + size) -ℤ pos start) ≡ 
 size-of start size = let z = pos (start + size) -ℤ pos start in omega (ints, abs-nat z, apart z, sub-nat (pos (start + size)) (pos start))
 
 pub windowed : {l t w h width height : ℕ} → Along l w width → Along t h height → Windowed width height (windowAt l t w h)
-unfolding inMap
 windowed {l} {t} {w} {h} {width} {height} a b =
     let across = size-of l w in
     let down = size-of t h in
     record {
-      solid = record { across = omega (ints, a .some); down = omega (ints, b .some) };
-      inside = rw (le-leb 0 l (omega arith), le-leb 0 t (omega arith), le-leb (l + w) (8 * width) (a .inside), le-leb (t + h) (8 * height) (b .inside));
       left = refl;
       top = refl;
       right = rw across;
       bottom = rw down;
       right-in = rw across (a .inside);
       bottom-in = rw down (b .inside);
-      width-some = rw across (a .some);
       width-small = rw across (a .small);
-      height-some = rw down (b .some);
       height-small = rw down (b .small);
     }
 

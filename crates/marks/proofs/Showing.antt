@@ -2,14 +2,14 @@
 -- `marks-agree`: the marks have the routes of the definitions. `center-marks`, at the end: what the marks say of each center. Assumes nothing.
 use mathlib.Core.Path.{_≡_, refl, sym, ap, subst, _∙_}
 use mathlib.Core.Bool.{Bool, true, false, not, _||_}
-use mathlib.Core.List.{List, map, _++_}
+use mathlib.Core.List.{List, map}
 use mathlib.Core.Logic.{_↔_}
 use Prim.Native.Nat.{ℕ, _+_, _-_, _*_, _≤_, _<_}
 use native.Mathlib.Nat.{mul-comm}
 use native.Mathlib.Omega.{arith}
 use lib.Dec.{T, ltb}
 use lib.IntN.{pos}
-use lib.ListN.{length, getD, take, drop, replicate}
+use lib.ListN.{length, getD, take, drop}
 use lib.Seq.{getD-take, getD-drop}
 use Rattle.numbers.proofs.Places.{row-below}
 use Rattle.numbers.proofs.Tests.{left-of}
@@ -20,8 +20,9 @@ use Rattle.model.specs.Boxes.{holds, collisionBox, widthOf, heightOf}
 use Rattle.model.specs.Ground.{Ground, before, after, built, free, passable}
 use Rattle.model.specs.Areas.{cleared}
 use Rattle.model.specs.RouteTest.{TestAreas}
+use Rattle.model.proofs.Lists.{cleared-alike}
 use Rattle.model.proofs.Shifted.{Agree}
-use Rattle.model.proofs.Valid.{Windowed, Valid}
+use Rattle.model.specs.Accepted.{Windowed, Valid}
 use Rattle.model.specs.declared.WallQuery.{WallQuery}
 use Rattle.stamps.specs.Stamps.{Framed, Counted, stops}
 use Rattle.counts.specs.Counts.{blocked}
@@ -73,7 +74,7 @@ module _ (g : Ground) (window : PixelRect) (m : CollisionBounds) (boxes : List P
 pub valid-ready : (g : Ground) (q : WallQuery) → Valid g q → Ready g (q .window) (q .plan)
 valid-ready g q v = record {
   ground = record { wide = v .width-small; high = v .height-small; cells = v .cells; words = omega (arith, v .words, v .few) };
-  count = v .count;
+  count = v .plan .count;
   window = v .window;
 }
 
@@ -134,7 +135,7 @@ module _ (g : Ground) (window : PixelRect) (p : Plan) (ready : Ready g window p)
         → c ≡ cleared ((widthOf window + 1) * (heightOf window + 1)) a
     left-zero a b c e r =
         rw (mul-comm (widthOf window + 1) (heightOf window + 1))
-        (e ∙ ap (λ (l : List ℕ). replicate ((heightOf window + 1) * (widthOf window + 1)) 0 ++ l) r)
+        (e ∙ cleared-alike ((heightOf window + 1) * (widthOf window + 1)) a b r)
 
     pub shown : Centers g window m p (areas base plan (was .marks)) now
     shown = record { marks = marks-shown; base = left-zero base (was .base) (now .base) (settled .base) (ground-count .rest); plan = left-zero plan (was .plan) (now .plan) (settled .plan) (plan-count .rest) }

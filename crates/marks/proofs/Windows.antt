@@ -9,7 +9,7 @@ use borrow.Author.Tests.{lt-ltb, le-leb}
 use Rattle.numbers.proofs.Tests.{left-of, right-of}
 use Rattle.model.specs.declared.PixelRect.{PixelRect}
 use Rattle.model.specs.Boxes.{holds, widthOf, heightOf}
-use Rattle.model.proofs.Valid.{Windowed}
+use Rattle.model.specs.Accepted.{Windowed}
 use Rattle.stamps.specs.Stamps.{flat}
 
 -- the window's corner, and what lies past its last column and row

@@ -15,7 +15,7 @@ use Rattle.model.specs.Ground.{Ground, before, after, built, passable}
 use Rattle.model.specs.Refusal.{caps}
 use Rattle.model.specs.Areas.{differenceRoom, markRoom, centerRoom, cleared}
 use Rattle.model.specs.RouteTest.{TestAreas}
-use Rattle.model.proofs.Valid.{Windowed}
+use Rattle.model.specs.Accepted.{Windowed}
 use Rattle.stamps.specs.declared.Frame.{Frame}
 use Rattle.counts.specs.Counts.{Surveyed}
 

@@ -9,6 +9,9 @@ pub mod Chains
 pub mod Ends
 pub mod Verdicts
 pub mod Answers
+pub mod Records
+pub mod Said
+pub mod Packed
 pub mod Caps
 pub mod Reading
 pub mod Widened

@@ -7,7 +7,6 @@ use Prim.Native.Nat.{ℕ, _-_}
 use native.Mathlib.Omega.{arith}
 use Rattle.model.specs.declared.PixelPosition.{PixelPosition}
 use Rattle.model.specs.declared.Passed.{Passed}
-use Rattle.model.specs.declared.WallPassage.{WallPassage}
 use Rattle.model.specs.declared.WallPassage.the-variants.{Open}
 use Rattle.model.specs.Steps.{Joined, pointWord}
 use Rattle.model.specs.Passage.{Passage}

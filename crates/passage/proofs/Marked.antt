@@ -1,10 +1,10 @@
 -- From the marks of a window that the checks accept to one mover's passage. Assumes nothing.
-use mathlib.Core.Path.{_≡_, ap, _∙_}
-use mathlib.Core.List.{List, _++_}
+use mathlib.Core.Path.{_≡_, _∙_}
+use mathlib.Core.List.{List}
 use Prim.Native.Nat.{ℕ}
 use native.Mathlib.Omega.{arith}
 use lib.IntN.{natAbs}
-use lib.ListN.{take, drop, replicate}
+use lib.ListN.{take, drop}
 use native.Mathlib.Nat.{mul-le-mul}
 use Rattle.model.specs.declared.PixelRect.{PixelRect}
 use Rattle.model.specs.declared.PixelPosition.{PixelPosition}
@@ -15,8 +15,9 @@ use Rattle.model.specs.Boxes.{widthOf, heightOf}
 use Rattle.model.specs.Ground.{Ground, before, after, built, passable}
 use Rattle.model.specs.Areas.{markRoom, centerRoom, cleared}
 use Rattle.model.specs.RouteTest.{TestAreas}
+use Rattle.model.proofs.Lists.{cleared-alike}
 use Rattle.model.proofs.Reading.{after-before}
-use Rattle.model.proofs.Valid.{Within}
+use Rattle.model.specs.Accepted.{Within}
 use Rattle.marks.specs.Marks.{Ready, Centers, areas}
 use Rattle.marks.proofs.Showing.{marks-agree}
 use Rattle.route.specs.Answer.{Window, Inside}
@@ -42,7 +43,7 @@ pub passage-told : (g : Ground) (w : PixelRect) (m : CollisionBounds) (plan : Pl
 passage-told g w m plan s e was ready c j z =
     let t = j .passage (passable g w m (before g)) (passable g w m (after g (built plan)))
     (marks-agree g w m (before g) _ (ready .window) (c .marks .baseline)) (marks-agree g w m (after g (built plan)) _ (ready .window) (c .marks .planned)) (after-before g w m (built plan)) in
-    let zero = z ∙ ap (λ (l : List ℕ). replicate (markRoom w) 0 ++ l) (c .marks .rest) in
+    let zero = z ∙ cleared-alike (markRoom w) (was .marks) _ (c .marks .rest) in
     record {
       centers = t .0;
       passing = t .1;

@@ -4,7 +4,7 @@ ghost use Prim.Native.Nat.{_+_, _*_, _≤_};
 ghost use lib.ListN.{length, take, drop};
 ghost use Rattle.model.specs.Ground.{ground};
 ghost use Rattle.model.specs.Areas.{cleared};
-ghost use Rattle.model.proofs.Valid.{Within};
+ghost use Rattle.model.specs.Accepted.{Within};
 ghost use Rattle.marks.specs.Marks.{Ready};
 ghost use Rattle.search.specs.Places.{Blank};
 ghost use Rattle.route.specs.Answer.{Clear, Window, Inside, Lent};

@@ -13,7 +13,8 @@ use Rattle.model.specs.Boxes.{footprintBox}
 use Rattle.model.specs.Ground.{ground, rects}
 use Rattle.model.specs.Placement.{Issue, badCells, issuesOf, issueWord}
 use Rattle.issue_words.specs.Issues.{Put}
-use Rattle.placement_issues.specs.Words.{boxesOf, groundWords, obstacleWords, buildingWords}
+use Rattle.model.specs.Accepted.{boxesOf}
+use Rattle.placement_issues.specs.Words.{groundWords, obstacleWords, buildingWords}
 use Rattle.placement.specs.Assessed.{OneAssessed}
 use Rattle.issue_words.proofs.Puts.{put-length, then}
 

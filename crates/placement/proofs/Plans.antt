@@ -1,7 +1,7 @@
 -- What validation has shown. Assumes nothing.
 use Rattle.model.specs.declared.WallQuery.{WallQuery}
 use Rattle.model.specs.Ground.{Ground}
-use Rattle.model.proofs.Valid.{Valid}
+use Rattle.model.specs.Accepted.{Valid}
 use Rattle.placement.specs.Assessed.{Assessable}
 
 -- an accepted query may be assessed
@@ -9,5 +9,5 @@ pub assessable : {g : Ground} {q : WallQuery} → Valid g q → Assessable g (q 
 assessable v = record {
   cells = v .cells;
   few = v .few;
-  fitting = record { count = v .count; each-building = λ i d h. v .each-building i d h .fits };
+  fitting = v .plan;
 }

@@ -13,7 +13,7 @@ use Rattle.model.specs.Areas.{begun}
 use Rattle.model.specs.Check.{padded}
 use Rattle.model.specs.Packed.{noBuilding}
 use Rattle.issue_words.specs.Issues.{Put}
-use Rattle.placement_issues.specs.Words.{Fitting}
+use Rattle.model.specs.Accepted.{Fitting}
 
 -- What validation has shown of the ground and of the plan.
 pub record Assessable (g : Ground) (plan : Plan) : Type 0 where

@@ -10,7 +10,7 @@ use Rattle.model.specs.declared.Plan.{Plan}
 use Rattle.model.specs.Ground.{built}
 use Rattle.model.specs.Refusal.{geometryOf}
 use Rattle.model.specs.Packed.{noBuilding}
-use Rattle.placement_issues.specs.Words.{Fitting, boxesOf}
+use Rattle.model.specs.Accepted.{Fitting, boxesOf}
 
 module _ (p : Plan) (room : length (p .buildings) ≡ 32) (fitting : Fitting p) where
   -- it has as many as it counts

@@ -1,30 +1,15 @@
--- Plans whose boxes i32 holds, and the issue words of one building by their kind. Assumes nothing.
-use mathlib.Core.Path.{_≡_}
+-- The issue words of one building by their kind. Assumes nothing.
 use mathlib.Core.Bool.{Bool, not, _&&_}
 use mathlib.Core.List.{List, _++_, map}
-use Prim.Native.Nat.{ℕ, _≤_, _<_}
+use Prim.Native.Nat.{ℕ}
 use lib.Dec.{eqb}
-use lib.ListN.{length, getD}
 use Rattle.model.specs.declared.PixelRect.{PixelRect}
 use Rattle.model.specs.declared.WallBuilding.{WallBuilding}
-use Rattle.model.specs.declared.BuildingGeometry.{BuildingGeometry}
-use Rattle.model.specs.declared.Geometry.the-variants.{Fits}
-use Rattle.model.specs.declared.Plan.{Plan}
 use Rattle.model.specs.Lists.{places}
 use Rattle.model.specs.Boxes.{meets, inMap, footprintBox, collisionBox}
-use Rattle.model.specs.Ground.{built}
 use Rattle.model.specs.Placement.{OutOfMap, UnbuildableTerrain, OverlapsObstacle, OverlapsBuilding, issueWord}
-use Rattle.model.specs.Refusal.{geometryOf, caps}
 use Rattle.footprints.specs.Cells.{badUnder, nonEmpty}
 use Rattle.issue_words.specs.Issues.{noted}
-
-abbrev pub boxesOf : WallBuilding → BuildingGeometry
-boxesOf b = record { footprint = footprintBox b; collision = collisionBox b }
-
--- What validation has shown of the plan: it has room for its buildings, and i32 holds the boxes of each.
-pub record Fitting (plan : Plan) : Type 0 where
-  pub count : plan .count ≤ caps .buildings
-  pub each-building : (i : ℕ) (d : WallBuilding) → i < length (built plan) → geometryOf (getD (built plan) i d) ≡ Fits (boxesOf (getD (built plan) i d))
 
 -- the test of obstacle i, and of building i beside building k
 abbrev pub metBy : PixelRect → ℕ → PixelRect → Bool

@@ -16,13 +16,14 @@ use Rattle.model.specs.Steps.{pointWord}
 use Rattle.model.specs.Refusal.{given, first, queryLines}
 use Rattle.model.specs.Areas.{roomLines, begun}
 use Rattle.model.specs.Check.{CheckAreas, checkRooms, Checked, Answers}
-use Rattle.model.specs.Report.{reportText}
-use Rattle.model.proofs.Valid.{none-both, valid}
+use Rattle.model.specs.Report.{reportText, PrintsAs}
+use Rattle.model.proofs.Lines.{none-both}
+use Rattle.model.proofs.Valid.{valid}
 use Rattle.text.specs.Writing.{Wrote}
 use Rattle.text.proofs.Chain.{said}
 use Rattle.report.specs.Printing.{reportRoom, issueSum, Printable}
 use Rattle.report.proofs.Areas.{report-counted, words-counted}
-use Rattle.program.specs.Promise.{TellsAs, Told}
+use Rattle.program.specs.Promise.{Told}
 
 -- one placement a building
 one-each : (g : Ground) (bs : List WallBuilding) (k : ℕ) (cs : List WallBuilding) → length (placementsFrom g bs k cs) ≡ length cs
@@ -41,7 +42,7 @@ module _ {g : Ground} {q : WallQuery} {was now : CheckAreas} {reply : WallReply}
   checked = rw ok at (a .leaves)
 
   few : q .plan .count ≤ 32
-  few = valid g q (none-both (queryLines g q) _ (sym none-applies) .0) .count
+  few = valid g q (none-both (queryLines g q) _ (sym none-applies) .0) .plan .count
 
   placed : take (q .plan .count) (reply .check .placements) ≡ placements g bs
   placed =
@@ -85,4 +86,4 @@ module _ {g : Ground} {q : WallQuery} {was now : CheckAreas} {reply : WallReply}
       → Told (queryLines g q ++ roomLines (checkRooms g q was)) g q out out′ r
   reported w =
       let text = reportText (placements g bs) (issueWords g bs) (reply .check .passed) (map pointWord (checked .centers)) in
-      record { text = text; tells = subst (TellsAs g q text) none-applies (reply .check .passed, checked .centers, checked .passes, refl); wrote = said as-defined w }
+      record { text = text; prints = subst (PrintsAs g q text) none-applies (reply .check .passed, checked .centers, checked .passes, refl); wrote = said as-defined w }

@@ -1,6 +1,5 @@
 -- The laws that the proofs of this crate share.
 pub mod Stages
-pub mod Reading
 pub mod Checking
 pub mod Long
 pub mod Whole

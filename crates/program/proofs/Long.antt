@@ -14,13 +14,11 @@ use borrow.Author.Tests.{ltb-false, le-ltb}
 use Rattle.numbers.proofs.First.{or-next}
 use Rattle.model.specs.Refusal.{Refusal, refuse, first}
 use Rattle.model.specs.Packed.{bitAt, fieldAt, headerIn, bytesIn, packedLines, groundIn, queryIn}
-use Rattle.model.specs.Report.{programLines, PrintsAs, Prints}
-use Rattle.model.proofs.Lines.{first-append}
-use Rattle.model.proofs.Valid.{none-line, neither}
+use Rattle.model.specs.Report.{headerLines, readingLines, checkLines, programLines, PrintsAs, Prints}
+use Rattle.model.proofs.Lines.{first-append, none-line, neither}
 use Rattle.bits.proofs.Fields.{field-lt}
 use Rattle.packed.proofs.Length.{too-long}
-use Rattle.program.specs.Promise.{headerLines, readingLines, checkLines, longest}
-use Rattle.program.proofs.Stages.{all-lines}
+use Rattle.program.specs.Promise.{longest}
 
 -- a field within the first bytes is a field of them
 field-kept : (s more : List ℕ) (i n : ℕ) → i + n ≤ 8 * length s → fieldAt (s ++ more) i n ≡ fieldAt s i n
@@ -56,7 +54,7 @@ few-bytes s e =
 
 -- a longer input is refused by the header, or with 19
 long-refused : (s : List ℕ) → longest < length s → first (programLines s) ≡ or-next (first (headerLines s)) (some (refuse 19 []))
-long-refused s h = ap first (sym (all-lines s)) ∙ (first-append (headerLines s) _ ∙ by (first (headerLines s)) refl)
+long-refused s h = first-append (headerLines s) _ ∙ by (first (headerLines s)) refl
   where
     by : (o : Option Refusal) → first (headerLines s) ≡ o → or-next o (first (readingLines s ++ checkLines (groundIn s) (queryIn s))) ≡ or-next o (some (refuse 19 []))
     by none e =
@@ -68,9 +66,9 @@ whole-prints : (s more out : List ℕ) → longest < length s → Prints s out �
 whole-prints s more out h p =
     let longer : longest < length (s ++ more) = omega (arith, length-append s more) in
     let same = long-refused (s ++ more) longer ∙ ap (λ (o : Option Refusal). or-next o (some (refuse 19 []))) (header-kept s more (omega arith)) in
-    subst (PrintsAs (s ++ more) out) (sym same) (carried (first (headerLines s)) (subst (PrintsAs s out) (long-refused s h) p))
+    subst (PrintsAs (groundIn (s ++ more)) (queryIn (s ++ more)) out) (sym same) (carried (first (headerLines s)) (subst (PrintsAs (groundIn s) (queryIn s) out) (long-refused s h) p))
   where
-    carried : (o : Option Refusal) → PrintsAs s out (or-next o (some (refuse 19 []))) → PrintsAs (s ++ more) out (or-next o (some (refuse 19 [])))
+    carried : (o : Option Refusal) → PrintsAs (groundIn s) (queryIn s) out (or-next o (some (refuse 19 []))) → PrintsAs (groundIn (s ++ more)) (queryIn (s ++ more)) out (or-next o (some (refuse 19 [])))
     carried none q = q
     carried (some r) q = q
 

@@ -7,7 +7,8 @@ use Rattle.model.specs.declared.Outcome.{Outcome}
 use Rattle.model.specs.declared.Outcome.the-variants.{Accepted}
 use Rattle.model.specs.Ground.{Ground, built}
 use Rattle.model.specs.Refusal.{given, first, moverLines, countLines, windowLines, endLines, buildingLines, queryLines, caps}
-use Rattle.model.proofs.Valid.{none-both, counted}
+use Rattle.model.proofs.Lines.{none-both}
+use Rattle.model.proofs.Valid.{counted}
 use Rattle.query.specs.Stages.{groundLines, wayLines}
 
 pub query-runs : (g : Ground) (q : WallQuery) → first (queryLines g q) ≡ first (groundLines g ++ (wayLines (g .width) (g .height) q ++ buildingLines 0 (built (q .plan))))

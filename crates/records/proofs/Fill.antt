@@ -21,8 +21,9 @@ use Rattle.model.specs.declared.Outcome.the-variants.{Accepted, Refused}
 use Rattle.model.specs.declared.WallError.the-variants.{RoomTooSmall}
 use Rattle.model.specs.Refusal.{first}
 use Rattle.model.specs.Areas.{roomLines}
-use Rattle.records.specs.Copies.{wordsOf, stored, Copies}
-use Rattle.records.proofs.Words.{words-length}
+use Rattle.model.specs.Records.{wordsOf, Copies}
+use Rattle.model.proofs.Records.{words-length}
+use Rattle.records.specs.Stores.{stored}
 
 -- the list after i turns, with k for 4 * i
 abbrev filled : List PixelRect → List ℤ → ℕ → ℕ → List ℤ

@@ -1,5 +1,4 @@
 -- The laws that the proofs of this crate share.
-pub mod Words
 pub mod Fill
 pub mod Onward
 pub mod Rect

@@ -1,2 +1,2 @@
--- Obstacles as rectangle records: what the contracts of this crate promise, over the definitions of `model`.
-pub mod Copies
+-- The root of the crate's definitions.
+pub mod Stores

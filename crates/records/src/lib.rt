@@ -3,7 +3,9 @@ ghost use mathlib.Core.Path.{_≡_};
 ghost use Prim.Native.Nat.{_+_, _*_, _<_, _≤_};
 ghost use lib.ListN.{length, take};
 ghost use Rattle.model.specs.Ground.{ground};
-ghost use Rattle.records.specs.Copies.{stored, Copies, Continues, RecordAnswers};
+ghost use Rattle.model.specs.Check.{Continues};
+ghost use Rattle.model.specs.Records.{Copies, RecordAnswers};
+ghost use Rattle.records.specs.Stores.{stored};
 use model::Outcome;
 use model::PixelRect;
 use model::WallError;
@@ -78,11 +80,7 @@ fn check_copied(
     ensures { λ r. ⌜ Continues told (ground width height (now (cells .entry)) (take (4 * n) (now (words .entry)))) query (record { issues = now (issues .entry); base = now (base .entry); plan = now (planned .entry); marks = now (marks .entry); parents = now (parents .entry); queue = now (queue .entry); route = now (route .entry) }) (record { issues = now (issues .exit); base = now (base .exit); plan = now (planned .exit); marks = now (marks .exit); parents = now (parents .exit); queue = now (queue .exit); route = now (route .exit) }) r ⌝ }
 {
     let Outcome::Accepted = told else {
-        let check = walls::no_check();
-        return WallReply {
-            outcome: told,
-            check,
-        };
+        return walls::refused(told);
     };
     walls::check_wall(
         width,

@@ -12,7 +12,9 @@ use Rattle.model.specs.declared.WallQuery.{WallQuery}
 use Rattle.model.specs.Ground.{Ground, obstacles}
 use Rattle.model.specs.Refusal.{Line, given, first, queryLines}
 use Rattle.model.specs.Check.{CheckAreas, Checked}
-use Rattle.model.proofs.Valid.{Valid, valid, none-both}
+use Rattle.model.specs.Accepted.{Valid}
+use Rattle.model.proofs.Lines.{none-both}
+use Rattle.model.proofs.Valid.{valid}
 use Rattle.placement.specs.Assessed.{AllAssessed}
 use Rattle.passage.specs.Passing.{PassAreas, PassAnswers, passAreas}
 use Rattle.rooms.specs.Lengths.{Small}

@@ -1,16 +1,17 @@
 -- From the marks of a window that the checks accept to the route test's answer. Assumes nothing.
-use mathlib.Core.Path.{_≡_, ap, _∙_}
+use mathlib.Core.Path.{_≡_, _∙_}
 use mathlib.Core.Bool.{Bool}
-use mathlib.Core.List.{List, _++_, map}
+use mathlib.Core.List.{List, map}
 use Prim.Native.Nat.{ℕ}
-use lib.ListN.{take, drop, replicate}
+use lib.ListN.{take, drop}
 use Rattle.model.specs.declared.Outcome.the-variants.{Accepted}
 use Rattle.model.specs.declared.WallQuery.{WallQuery}
 use Rattle.model.specs.Ground.{Ground, after, built, passable}
 use Rattle.model.specs.Steps.{pointOf}
 use Rattle.model.specs.Areas.{markRoom, centerRoom, cleared}
 use Rattle.model.specs.RouteTest.{TestAreas, TestLeaves, isPassage}
-use Rattle.model.proofs.Valid.{Valid}
+use Rattle.model.proofs.Lists.{cleared-alike}
+use Rattle.model.specs.Accepted.{Valid}
 use Rattle.marks.specs.Marks.{Centers, areas, frameOf}
 use Rattle.marks.proofs.Showing.{marks-agree}
 use Rattle.route_list.specs.Reading.{ByMarks}
@@ -22,5 +23,5 @@ pub list-tested : (g : Ground) (q : WallQuery) (words : List ℕ) (was : TestAre
 list-tested g q words was v c told z =
     let w = q .window in
     let boxes = after g (built (q .plan)) in
-    let zero = z ∙ ap (λ (l : List ℕ). replicate (markRoom w) 0 ++ l) (c .marks .rest) in
+    let zero = z ∙ cleared-alike (markRoom w) (was .marks) _ (c .marks .rest) in
     (told (passable g w (q .mover) boxes) (marks-agree g w (q .mover) boxes _ (v .window) (c .marks .planned)), λ i. record { base = c .base i; plan = c .plan i; marks = zero i })

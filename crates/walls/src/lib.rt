@@ -7,9 +7,7 @@ ghost use Rattle.model.specs.Refusal.{given, first, queryLines};
 ghost use Rattle.model.specs.Areas.{roomLines};
 ghost use Rattle.model.specs.Check.{CheckAreas, Answers, Checked, checkRooms, noCheck};
 ghost use Rattle.model.specs.RouteTest.{TestAreas, TestAnswers, TestLeaves, testRooms};
-ghost use Rattle.model.proofs.Valid.{Valid};
-ghost use Rattle.model.proofs.Enough.{CheckEnough, TestEnough};
-ghost use Rattle.marks.specs.Marks.{areas};
+ghost use Rattle.model.specs.Accepted.{Valid, CheckEnough, TestEnough};
 ghost use Rattle.rooms.specs.Lengths.{lengths};
 use model::Outcome;
 use model::Passed;
@@ -41,7 +39,7 @@ fn validate_check(
 }
 
 // What stands beside a refusal.
-pub fn no_check() -> WallCheck
+fn no_check() -> WallCheck
     ensures { λ r. ⌜ r ≡ noCheck ⌝ }
 {
     let rect = PixelRect {
@@ -65,6 +63,14 @@ pub fn no_check() -> WallCheck
         passed,
         window: rect,
     }
+}
+
+// What is answered where the outcome is a refusal.
+pub fn refused(outcome: Outcome) -> WallReply
+    ensures { λ r. ⌜ r ≡ record { outcome = outcome; check = noCheck } ⌝ }
+{
+    let check = no_check();
+    WallReply { outcome, check }
 }
 
 // A check that nothing refuses: the placements of the plan, then the mover's passage.
@@ -140,11 +146,7 @@ pub fn check_wall(
     };
     let told = validate_check(width, height, cells, words, query, lent);
     let Outcome::Accepted = told else {
-        let check = no_check();
-        return WallReply {
-            outcome: told,
-            check,
-        };
+        return refused(told);
     };
     let check = accepted(
         width,
@@ -198,8 +200,8 @@ fn tested(
     planned: &mut [u32],
     marks: &mut [u8],
 ) -> bool
-    requires { ⌜ Valid (ground width height (now cells) (now words)) query × TestEnough query (areas (now base) (now planned) (now marks)) ⌝ }
-    ensures { λ r. ⌜ TestLeaves (ground width height (now (cells .entry)) (now (words .entry))) query (now (list .entry)) (areas (now (base .entry)) (now (planned .entry)) (now (marks .entry))) (areas (now (base .exit)) (now (planned .exit)) (now (marks .exit))) Outcome.Accepted r ⌝ }
+    requires { ⌜ Valid (ground width height (now cells) (now words)) query × TestEnough query (record { base = now base; plan = now planned; marks = now marks }) ⌝ }
+    ensures { λ r. ⌜ TestLeaves (ground width height (now (cells .entry)) (now (words .entry))) query (now (list .entry)) (record { base = now (base .entry); plan = now (planned .entry); marks = now (marks .entry) }) (record { base = now (base .exit); plan = now (planned .exit); marks = now (marks .exit) }) Outcome.Accepted r ⌝ }
 {
     let window = query.window;
     marks::mark_centers(
@@ -233,7 +235,7 @@ pub fn test_route(
     planned: &mut [u32],
     marks: &mut [u8],
 ) -> TestReply
-    ensures { λ r. ⌜ TestAnswers (ground width height (now (cells .entry)) (now (words .entry))) query (now (list .entry)) (areas (now (base .entry)) (now (planned .entry)) (now (marks .entry))) (areas (now (base .exit)) (now (planned .exit)) (now (marks .exit))) r ⌝ }
+    ensures { λ r. ⌜ TestAnswers (ground width height (now (cells .entry)) (now (words .entry))) query (now (list .entry)) (record { base = now (base .entry); plan = now (planned .entry); marks = now (marks .entry) }) (record { base = now (base .exit); plan = now (planned .exit); marks = now (marks .exit) }) r ⌝ }
 {
     let told = validate_test(
         width,

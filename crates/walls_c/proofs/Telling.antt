@@ -9,8 +9,7 @@ use Rattle.model.specs.Ground.{Ground}
 use Rattle.model.specs.Refusal.{given}
 use Rattle.model.specs.Check.{CheckAreas, Answers}
 use Rattle.model.specs.RouteTest.{TestAreas, TestAnswers}
-use Rattle.words.specs.Words.{number, checkWords, testWords, written}
-use Rattle.walls_c.specs.Said.{CheckSaid, TestSaid}
+use Rattle.model.specs.Words.{number, checkWords, testWords, written, CheckSaid, TestSaid}
 
 -- the check of a query that is the one which the words say
 pub check-said : {g : Ground} {q p : WallQuery} {was now : CheckAreas} {r : WallReply} {before after : List ℕ} {told : ℕ} → p ≡ q → Answers g p was now r → (after ≡ written 0 (checkWords r) before) × (told ≡ number (given (r .outcome))) → CheckSaid g q was now before after told

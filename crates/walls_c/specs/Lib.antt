@@ -1,3 +1,2 @@
 -- The root of the crate's definitions.
-pub mod Said
 pub mod Held

@@ -1,11 +1,9 @@
 // The wall checker for another language to link (include/walls_c.h). Every call takes numbers and slices of any length, and nothing is required of them.
-ghost use mathlib.Core.Path.{_≡_};
 ghost use Prim.Native.Nat.{_*_};
 ghost use lib.ListN.{take};
 ghost use Rattle.model.specs.Ground.{ground};
-ghost use Rattle.model.specs.Check.{Answers, noCheck};
-ghost use Rattle.words.specs.Words.{queryOf};
-ghost use Rattle.walls_c.specs.Said.{CheckSaid, TestSaid, ReadSaid, PackedSaid};
+ghost use Rattle.model.specs.Check.{Answers};
+ghost use Rattle.model.specs.Words.{queryOf, CheckSaid, TestSaid, ReadSaid, PackedSaid};
 ghost use Rattle.walls_c.specs.Held.{Held};
 use model::Outcome;
 use model::PackedQuery;
@@ -95,14 +93,6 @@ pub extern "C" fn walls_c_test_route(
     words::put_test(answer, reply)
 }
 
-// What is answered where reading is refused.
-fn refused(outcome: Outcome) -> WallReply
-    ensures { λ r. ⌜ r ≡ record { outcome = outcome; check = noCheck } ⌝ }
-{
-    let check = walls::no_check();
-    WallReply { outcome, check }
-}
-
 // Checks what was read into the fronts of the areas 0 and 1.
 fn check_read(
     p: PackedQuery,
@@ -158,7 +148,7 @@ pub extern "C" fn walls_c_check_packed(
     let read = packed::read_packed(bytes, cells, obstacles);
     let told = read.outcome;
     let Outcome::Accepted = told else {
-        return words::put_check(answer, refused(told));
+        return words::put_check(answer, walls::refused(told));
     };
     let p = read.packed;
     let reply = check_read(

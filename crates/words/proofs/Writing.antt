@@ -15,7 +15,7 @@ use Rattle.model.specs.declared.Outcome.{Outcome}
 use Rattle.model.specs.declared.Outcome.the-variants.{Accepted, Refused}
 use Rattle.model.specs.declared.WallError.the-variants.{InvalidGridDimensions, CellLength, BadCell, InvalidElevation, ObstacleWords, TooManyObstacles, InvalidObstacle, MoverExtentTooLarge, TooManyBuildings, InvalidWindow, WindowTooLarge, TooManyCenters, EndpointOutsideWindow, InvalidFootprint, CollisionExtentTooLarge, CoordinateOverflow, RoomTooSmall, PackedShort, PackedTail, ProgramLimit}
 use Rattle.model.specs.Refusal.{Refusal, given}
-use Rattle.words.specs.Words.{bits, number, refusalWords, placementWords, buildingWords, written}
+use Rattle.model.specs.Words.{bits, number, refusalWords, placementWords, buildingWords, written}
 
 -- the words of two lists, one behind the other
 pub written-append : (k : ℕ) (a b l : List ℕ) → written k (a ++ b) l ≡ written (k + length a) b (written k a l)

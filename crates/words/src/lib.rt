@@ -7,7 +7,7 @@ ghost use lib.ListN.{set, take};
 ghost use Rattle.model.specs.Lists.{table};
 ghost use Rattle.model.specs.Passage.{rank};
 ghost use Rattle.model.specs.Refusal.{given, endNumber, refusal};
-ghost use Rattle.words.specs.Words.{wordAt, pointAt, extentsAt, rectAt, buildingAt, queryOf, bits, flag, number, refusalWords, rectWords, passedWords, placementWords, checkWords, testWords, endWords, buildingWords, queryWords, readWords, written};
+ghost use Rattle.model.specs.Words.{wordAt, pointAt, extentsAt, rectAt, buildingAt, queryOf, bits, flag, number, refusalWords, rectWords, passedWords, placementWords, checkWords, testWords, endWords, buildingWords, queryWords, readWords, written};
 use model::CollisionBounds;
 use model::DepotFootprint;
 use model::Outcome;

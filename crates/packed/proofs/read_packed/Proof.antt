@@ -6,7 +6,7 @@ use Rattle.model.specs.Refusal.{given}
 use Rattle.model.specs.Packed.{packedLines, ReadAreas, readRooms}
 use Rattle.model.specs.Areas.{roomLines}
 use Rattle.model.proofs.Enough.{read-enough}
-use Rattle.model.proofs.Valid.{none-both}
+use Rattle.model.proofs.Lines.{none-both}
 use Rattle.packed.proofs.read_packed.Statement.{statement}
 use Rattle.packed.proofs.read_packed.Tie as tie
 

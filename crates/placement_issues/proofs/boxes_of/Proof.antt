@@ -4,7 +4,7 @@ use Prim.Native.Nat.{ℕ}
 use native.Mathlib.Omega.{arith}
 use borrow.Author.Needs.{needs}
 use Rattle.model.specs.declared.Geometry.the-variants.{Fits, Overflow}
-use Rattle.placement_issues.specs.Words.{boxesOf}
+use Rattle.model.specs.Accepted.{boxesOf}
 use Rattle.placement_issues.proofs.boxes_of.Statement.{statement}
 use Rattle.placement_issues.proofs.boxes_of.Tie as tie
 

@@ -1,7 +1,7 @@
 -- `program::check_header` meets its contract. Assumes nothing.
 use borrow.Author.Tests.{lt-ltb, le-ltb}
 use Rattle.model.specs.Refusal.{first}
-use Rattle.program.specs.Promise.{headerLines}
+use Rattle.model.specs.Report.{headerLines}
 use borrow.Author.Needs.{needs}
 use Rattle.program.proofs.check_header.Statement.{statement}
 use Rattle.program.proofs.check_header.Tie as tie

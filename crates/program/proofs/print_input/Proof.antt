@@ -1,7 +1,7 @@
 -- `program::print_input` meets its contract. Assumes nothing.
 use native.Mathlib.Omega.{arith}
 use denote.Ref.{now}
-use Rattle.program.specs.Promise.{headerLines}
+use Rattle.model.specs.Report.{headerLines}
 use Rattle.program.proofs.Stages.{refused-here, passed-here}
 use Rattle.program.proofs.Whole.{printed}
 use borrow.Author.Needs.{needs}

@@ -5,9 +5,9 @@ use native.Mathlib.Omega.{arith}
 use lib.Seq.{length-take-le}
 use denote.Ref.{now}
 use Rattle.model.specs.Packed.{groundIn, queryIn}
-use Rattle.program.specs.Promise.{readingLines, checkLines}
+use Rattle.model.specs.Report.{readingLines, checkLines}
+use Rattle.model.proofs.Packed.{query-said, cells-kept, words-kept, cells-there, words-there, ground-said}
 use Rattle.program.proofs.Stages.{refused-here, passed-here, as-said}
-use Rattle.program.proofs.Reading.{query-said, area-said, words-said, roomy, ground-said}
 use borrow.Author.Needs.{needs}
 use Rattle.program.proofs.print_packed.Statement.{statement}
 use Rattle.program.proofs.print_packed.Tie as tie
@@ -49,8 +49,7 @@ few : (x : tie.After-enum-told) → let p = x .before .before .before .before .r
 few x =
     let read = x .before .before .before .before .read-packed .ensures in
     let ok = x .enum-told .given .1 in
-    let room = roomy read ok in
-    (omega (arith, area-said read ok), omega (arith, words-said read ok))
+    (omega (arith, cells-there read ok, cells-kept read ok), omega (arith, words-there read ok, words-kept read ok))
 
 mul-n : tie.Need-mul-n
 mul-n c = let a = few (c .before .before .before) in omega arith

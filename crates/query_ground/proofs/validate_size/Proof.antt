@@ -3,7 +3,7 @@ use native.Mathlib.Nat.{mul-le-mul}
 use native.Mathlib.Omega.{arith}
 use borrow.Author.Tests.{eq-eqb, ne-eqb}
 use Rattle.model.specs.Refusal.{first, off, sizeLines, caps}
-use Rattle.model.proofs.Valid.{neither, in-cap}
+use Rattle.model.proofs.Lines.{neither, in-cap}
 use Rattle.query_ground.proofs.validate_size.Statement.{statement}
 use Rattle.query_ground.proofs.validate_size.Tie as tie
 

@@ -8,7 +8,7 @@ use borrow.Author.Needs.{needs}
 use borrow.Author.Tests.{lt-ltb, le-ltb, ltb-false}
 use Rattle.model.specs.Boxes.{inMap}
 use Rattle.model.specs.Refusal.{first, hollow, windowLines, caps}
-use Rattle.model.proofs.Valid.{neither}
+use Rattle.model.proofs.Lines.{neither}
 use Rattle.query_way.proofs.validate_window.Statement.{statement}
 use Rattle.query_way.proofs.validate_window.Tie as tie
 

@@ -14,11 +14,11 @@ enum-told c = search needs
 enum-told-2 : tie.Need-enum-told-2
 enum-told-2 c = search needs
 
-no-check-requires : tie.Need-no-check-requires
-no-check-requires c κs = search needs
+refused-requires : tie.Need-refused-requires
+refused-requires c κs = search needs
 
 returns : tie.Need-returns
-returns c = rw (c .before .enum-told2 .given .1) (rw (c .no-check .ensures) refl, refl)
+returns c = let e = c .before .enum-told2 .given .1 in rw e (rw e at (c .refused .ensures), refl)
 
 words-needed-requires : tie.Need-words-needed-requires
 words-needed-requires c κs =
@@ -69,7 +69,7 @@ check-copied-spec =
     (tie.spec
     enum-told
     enum-told-2
-    no-check-requires
+    refused-requires
     returns
     words-needed-requires
     slice-aggregate-check-wall

@@ -19,8 +19,8 @@ enum-told c = search needs
 enum-told-2 : tie.Need-enum-told-2
 enum-told-2 c = search needs
 
-no-check-requires : tie.Need-no-check-requires
-no-check-requires c κs = search needs
+refused-requires : tie.Need-refused-requires
+refused-requires c κs = search needs
 
 -- the areas as they came
 abbrev lent : tie.Start → CheckAreas
@@ -34,10 +34,7 @@ returns : tie.Need-returns
 returns c =
     let told = c .before .before .before in
     let start = told .before .before .before .before .before .before .before .before .before in
-    record {
-      outcome = told .validate-check .ensures (lent start) refl;
-      leaves = rw (c .before .enum-told2 .given .1) (c .no-check .ensures, refl);
-    }
+    rw (c .refused .ensures) (record { outcome = told .validate-check .ensures (lent start) refl; leaves = rw (c .before .enum-told2 .given .1) (refl, refl) })
 
 accepted-requires : tie.Need-accepted-requires
 accepted-requires c κs =
@@ -90,7 +87,7 @@ check-wall-spec =
     validate-check-requires
     enum-told
     enum-told-2
-    no-check-requires
+    refused-requires
     returns
     accepted-requires
     same-length

@@ -34,7 +34,7 @@ check-room-requires c κs =
     let e = c .enum-told .given .1 in
     let h = told .validate-query .ensures in
     let v = queried g q e h in
-    (small g q e h, (omega (arith, v .few, obstacle-count g q e h), v .count))
+    (small g q e h, (omega (arith, v .few, obstacle-count g q e h), v .plan .count))
 
 returns-2 : tie.Need-returns-2
 returns-2 c =

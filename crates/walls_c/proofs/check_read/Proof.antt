@@ -1,6 +1,7 @@
 -- `walls_c::check_read` meets its contract. Assumes nothing.
+use mathlib.Core.Path.{sym}
+use lib.Seq.{length-take-le}
 use denote.Ref.{now}
-use Rattle.walls_c.proofs.Packed.{taken}
 use borrow.Author.Needs.{needs}
 use Rattle.walls_c.proofs.check_read.Statement.{statement}
 use Rattle.walls_c.proofs.check_read.Tie as tie
@@ -18,10 +19,10 @@ mul-k : tie.Need-mul-k
 mul-k c = search needs
 
 slice-aggregate-check-wall : tie.Need-slice-aggregate-check-wall
-slice-aggregate-check-wall c = let a = c .before .before .before .before .before .before .before .before .before .before .before .before .before in taken _ (now (a .args .cells)) (a .pre .cells-there)
+slice-aggregate-check-wall c = let a = c .before .before .before .before .before .before .before .before .before .before .before .before .before in sym (length-take-le _ (now (a .args .cells)) (a .pre .cells-there))
 
 slice-aggregate-check-wall-2 : tie.Need-slice-aggregate-check-wall-2
-slice-aggregate-check-wall-2 c = let a = c .before .before .before .before .before .before .before .before .before .before .before .before .before .before in taken _ (now (a .args .words)) (a .pre .words-there)
+slice-aggregate-check-wall-2 c = let a = c .before .before .before .before .before .before .before .before .before .before .before .before .before .before in sym (length-take-le _ (now (a .args .words)) (a .pre .words-there))
 
 check-wall-requires : tie.Need-check-wall-requires
 check-wall-requires c κs = search needs

@@ -1,5 +1,6 @@
 -- `walls_c::walls_c_check_packed` meets its contract. Assumes nothing.
-use Rattle.walls_c.proofs.Packed.{not-read, held, cells-kept, words-kept, checked}
+use Rattle.model.proofs.Packed.{cells-kept, words-kept}
+use Rattle.walls_c.proofs.Packed.{held, checked, not-read}
 use borrow.Author.Needs.{needs}
 use Rattle.walls_c.proofs.walls_c_check_packed.Statement.{statement}
 use Rattle.walls_c.proofs.walls_c_check_packed.Tie as tie
@@ -32,7 +33,7 @@ returns : tie.Need-returns
 returns c =
     let put = c .before .before in
     let told = put .before .before .before in
-    not-read (told .before .before .before .before .before .read-packed .ensures) (told .enum-told2 .given .1) (put .before .refused .ensures) (put .put-check .ensures)
+    not-read (told .before .before .before .before .before .read-packed .ensures) (put .put-check .ensures) (told .enum-told2 .given .1) (put .before .refused .ensures)
 
 check-read-requires : tie.Need-check-read-requires
 check-read-requires c κs =
@@ -81,7 +82,7 @@ returns-2 c =
     let put = c .before .before in
     let call = put .before .before .before .before .before .before .before .before .before .before .before .before .before .before .before .before in
     let told = call .before .before .before .before .before .before .before .before .before .before .before in
-    checked (told .before .before .before .before .before .read-packed .ensures) (told .enum-told .given .1) (call .check-read .ensures) (put .put-check2 .ensures)
+    checked (told .before .before .before .before .before .read-packed .ensures) (put .put-check2 .ensures) (told .enum-told .given .1) (call .check-read .ensures)
 
 pub walls-c-check-packed-spec : {M : Type 1} → statement M
 walls-c-check-packed-spec =

@@ -8,7 +8,7 @@ use lib.ListN.{drop}
 use Rattle.model.specs.declared.WallBuilding.{WallBuilding}
 use Rattle.model.specs.Lists.{table}
 use Rattle.model.proofs.Lists.{table-store}
-use Rattle.words.specs.Words.{buildingAt}
+use Rattle.model.specs.Words.{buildingAt}
 use Rattle.words.proofs.plan_at.Statement.{statement}
 use Rattle.words.proofs.plan_at.Tie as tie
 

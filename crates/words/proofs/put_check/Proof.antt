@@ -5,7 +5,7 @@ use mathlib.Core.Path.{_≡_, refl, ap, _∙_}
 use mathlib.Core.List.{List, _++_, flatMap}
 use Prim.Native.Nat.{ℕ}
 use Rattle.model.specs.Refusal.{given}
-use Rattle.words.specs.Words.{refusalWords, passedWords, placementWords, written}
+use Rattle.model.specs.Words.{refusalWords, passedWords, placementWords, written}
 use Rattle.words.proofs.Writing.{both, five}
 use borrow.Author.Needs.{needs}
 use Rattle.words.proofs.put_check.Statement.{statement}

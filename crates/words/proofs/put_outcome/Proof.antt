@@ -4,7 +4,7 @@ use mathlib.Core.Path.{ap, _∙_}
 use mathlib.Core.List.{List}
 use Prim.Native.Nat.{ℕ}
 use Rattle.model.specs.Refusal.{given}
-use Rattle.words.specs.Words.{written}
+use Rattle.model.specs.Words.{written}
 use Rattle.words.proofs.Writing.{number-first}
 use borrow.Author.Needs.{needs}
 use Rattle.words.proofs.put_outcome.Statement.{statement}

@@ -7,7 +7,7 @@ use Prim.Native.Nat.{ℕ, _+_, _-_, _*_, _≤_, _<_}
 use lib.ListN.{length, take, length-take}
 use lib.Seq.{take-all}
 use Rattle.model.specs.declared.WallPlacement.{WallPlacement}
-use Rattle.words.specs.Words.{placementWords, written}
+use Rattle.model.specs.Words.{placementWords, written}
 use Rattle.words.proofs.Writing.{written-length, group-next, nine-each}
 use Rattle.words.proofs.put_placements.Statement.{statement}
 use Rattle.words.proofs.put_placements.Tie as tie

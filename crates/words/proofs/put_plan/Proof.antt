@@ -7,7 +7,7 @@ use Prim.Native.Nat.{ℕ, _+_, _-_, _*_, _≤_, _<_}
 use lib.ListN.{length, take, length-take}
 use lib.Seq.{take-all}
 use Rattle.model.specs.declared.WallBuilding.{WallBuilding}
-use Rattle.words.specs.Words.{buildingWords, written}
+use Rattle.model.specs.Words.{buildingWords, written}
 use Rattle.words.proofs.Writing.{written-length, group-next, eight-each}
 use Rattle.words.proofs.put_plan.Statement.{statement}
 use Rattle.words.proofs.put_plan.Tie as tie

@@ -4,7 +4,7 @@ use mathlib.Core.Path.{_≡_, refl, ap, _∙_}
 use mathlib.Core.List.{List, [], _∷_, _++_, flatMap}
 use Prim.Native.Nat.{ℕ}
 use lib.ListN.{getD, take}
-use Rattle.words.specs.Words.{rectWords, endWords, buildingWords, written}
+use Rattle.model.specs.Words.{rectWords, endWords, buildingWords, written}
 use Rattle.words.proofs.Writing.{both}
 use borrow.Author.Needs.{needs}
 use Rattle.words.proofs.put_query.Statement.{statement}

@@ -6,7 +6,7 @@ use mathlib.Core.List.{List, [], _∷_, _++_}
 use Prim.Native.Nat.{ℕ}
 use lib.ListN.{take}
 use Rattle.model.specs.Refusal.{given}
-use Rattle.words.specs.Words.{refusalWords, queryWords, written}
+use Rattle.model.specs.Words.{refusalWords, queryWords, written}
 use Rattle.words.proofs.Writing.{both, five}
 use borrow.Author.Needs.{needs}
 use Rattle.words.proofs.put_read.Statement.{statement}

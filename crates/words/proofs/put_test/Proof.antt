@@ -6,7 +6,7 @@ use mathlib.Core.List.{[], _∷_}
 use Prim.Native.Nat.{ℕ}
 use lib.ListN.{set}
 use Rattle.model.specs.Refusal.{given}
-use Rattle.words.specs.Words.{flag, refusalWords, written}
+use Rattle.model.specs.Words.{flag, refusalWords, written}
 use Rattle.words.proofs.Writing.{both, five}
 use borrow.Author.Needs.{needs}
 use Rattle.words.proofs.put_test.Statement.{statement}

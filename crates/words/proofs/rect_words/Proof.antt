@@ -4,7 +4,7 @@ use mathlib.Core.List.{[], _∷_}
 use mir.Facts.{toZ-ofZ}
 use mir.Syntax.{w32}
 use mir.Val.{SFits}
-use Rattle.words.specs.Words.{bits}
+use Rattle.model.specs.Words.{bits}
 use borrow.Author.Needs.{needs}
 use Rattle.words.proofs.rect_words.Statement.{statement}
 use Rattle.words.proofs.rect_words.Tie as tie

@@ -1,8 +1,8 @@
--- `walls_c::refused` meets its contract. Assumes nothing.
+-- `walls::refused` meets its contract. Assumes nothing.
 use borrow.Author.Needs.{needs}
 use mathlib.Core.Path.{refl}
-use Rattle.walls_c.proofs.refused.Statement.{statement}
-use Rattle.walls_c.proofs.refused.Tie as tie
+use Rattle.walls.proofs.refused.Statement.{statement}
+use Rattle.walls.proofs.refused.Tie as tie
 
 no-check-requires : tie.Need-no-check-requires
 no-check-requires c κs = search needs

@@ -1,24 +1,12 @@
--- A query as a list of words, and answers as lists of words, for hosts in other languages. Assumes nothing.
-use mathlib.Core.Bool.{Bool, cond}
-use mathlib.Core.List.{List, [], _∷_, _++_, flatMap}
-use mathlib.Core.Option.{Option, none, some}
-use Prim.Native.Nat.{ℕ, suc, _+_, _-_, _*_, _%_}
-use lib.IntN.{ℤ, pos, negsuc}
-use lib.ListN.{length, getD, set, replicate}
-use Rattle.model.specs.declared.CollisionBounds.{CollisionBounds}
-use Rattle.model.specs.declared.PackedReply.{PackedReply}
-use Rattle.model.specs.declared.Passed.{Passed}
-use Rattle.model.specs.declared.PixelPosition.{PixelPosition}
-use Rattle.model.specs.declared.PixelRect.{PixelRect}
-use Rattle.model.specs.declared.TestReply.{TestReply}
-use Rattle.model.specs.declared.WallBuilding.{WallBuilding}
-use Rattle.model.specs.declared.WallPlacement.{WallPlacement}
-use Rattle.model.specs.declared.WallQuery.{WallQuery}
-use Rattle.model.specs.declared.WallReply.{WallReply}
+-- What hosts in other languages link: a query as a list of words, answers as lists of words, and what the exported calls promise. Assumes nothing.
+use Rattle.model.specs.Types.{_≡_, Bool, cond, List, [], _∷_, _++_, flatMap, Option, none, some, ℕ, suc, _+_, _-_, _*_, _%_, ℤ, pos, negsuc, length, getD, set, replicate, PixelRect, PixelPosition, CollisionBounds, WallBuilding, WallQuery, Passed, WallPlacement, WallReply, TestReply, PackedReply}
 use Rattle.model.specs.Lists.{table}
+use Rattle.model.specs.Ground.{Ground}
 use Rattle.model.specs.Passage.{rank}
 use Rattle.model.specs.Refusal.{Refusal, given}
-use Rattle.model.specs.Packed.{signed}
+use Rattle.model.specs.Check.{CheckAreas, Answers, Continues}
+use Rattle.model.specs.RouteTest.{TestAreas, TestAnswers}
+use Rattle.model.specs.Packed.{signed, groundIn, queryIn, ReadAreas, ReadAnswers}
 
 -- ---- a query from words
 
@@ -106,3 +94,35 @@ readWords r =
 unfoldable pub written : ℕ → List ℕ → List ℕ → List ℕ
 written k [] area = area
 written k (w ∷ ws) area = written (suc k) ws (set area k w)
+
+-- ---- what the exported calls promise
+
+-- A check: the words of its answer stand first, and what is told is the number of its refusal, or 0.
+pub record CheckSaid (g : Ground) (q : WallQuery) (was now : CheckAreas) (before after : List ℕ) (told : ℕ) : Type 0 where
+  pub reply : WallReply
+  pub answers : Answers g q was now reply
+  pub words : after ≡ written 0 (checkWords reply) before
+  pub told-number : told ≡ number (given (reply .outcome))
+
+-- A route test likewise.
+pub record TestSaid (g : Ground) (q : WallQuery) (list : List ℕ) (was now : TestAreas) (before after : List ℕ) (told : ℕ) : Type 0 where
+  pub reply : TestReply
+  pub answers : TestAnswers g q list was now reply
+  pub words : after ≡ written 0 (testWords reply) before
+  pub told-number : told ≡ number (given (reply .outcome))
+
+-- Reading a packed query likewise.
+pub record ReadSaid (s : List ℕ) (was now : ReadAreas) (before after : List ℕ) (told : ℕ) : Type 0 where
+  pub reply : PackedReply
+  pub answers : ReadAnswers s was now reply
+  pub words : after ≡ written 0 (readWords reply) before
+  pub told-number : told ≡ number (given (reply .outcome))
+
+-- A packed query is read, then checked.
+pub record PackedSaid (s : List ℕ) (readWas readNow : ReadAreas) (was now : CheckAreas) (before after : List ℕ) (told : ℕ) : Type 0 where
+  pub read : PackedReply
+  pub reads : ReadAnswers s readWas readNow read
+  pub reply : WallReply
+  pub continues : Continues (read .outcome) (groundIn s) (queryIn s) was now reply
+  pub words : after ≡ written 0 (checkWords reply) before
+  pub told-number : told ≡ number (given (reply .outcome))
