@@ -1,69 +1,34 @@
 //! Times the whole check beside the original's `check_wall`, in one process and on the same inputs: milliseconds a check, and how many times
-//! as fast. Both must give the same verdict, baseline and route. See bench/check.sh.
-use original::walls::{check_wall, CollisionBounds, WallBuilding, WallPassage, WallQuery};
-use original::{DepotFootprint, PixelPosition, PixelRect, TerrainCell, TerrainGrid, TilePosition};
+//! as fast. Both must give the same answer and the same route. See bench/check.sh.
+
+// Of these three, which belong to the comparison and to the Rust crate, only a part is used here.
+#[allow(dead_code)]
+#[path = "../compare/src/case.rs"]
+mod case;
+#[allow(dead_code)]
+#[path = "../bindings/rust/src/ffi.rs"]
+mod ffi;
+#[allow(dead_code)]
+#[path = "../compare/src/oracle.rs"]
+mod oracle;
+
+mod common;
+
+use case::{Case, PLAIN};
+use common::{least, Random};
+use ffi::{walls_c_check, CHECK_WORDS};
+// For the library, which that crate links.
 use khimdorae_walls as _;
+use oracle::{answer_words, grid, route_words};
+use original::walls::{check_wall, CollisionBounds, WallBuilding, WallPassage, WallQuery};
+use original::{DepotFootprint, PixelPosition, PixelRect, TilePosition};
 use std::hint::black_box;
 
-#[repr(C)]
-struct Time {
-    seconds: i64,
-    nanos: i64,
-}
-
-extern "C" {
-    fn clock_gettime(clock: i32, t: *mut Time) -> i32;
-    fn walls_c_check(
-        width: u32, height: u32, cells: *const u8, cells_len: usize, obstacles: *const i32, obstacles_len: usize, query: *const u64,
-        query_len: usize, buildings: usize, issues: *mut u32, issues_len: usize, base: *mut u32, base_len: usize, planned: *mut u32,
-        planned_len: usize, marks: *mut u8, marks_len: usize, parents: *mut u32, parents_len: usize, queue: *mut u32, queue_len: usize,
-        route: *mut u32, route_len: usize, answer: *mut u64, answer_len: usize,
-    ) -> u64;
-}
-
-// Processor time of this thread, which other work on the machine does not lengthen much.
-fn now() -> f64 {
-    let mut t = Time { seconds: 0, nanos: 0 };
-    unsafe { clock_gettime(3, &mut t) };
-    t.seconds as f64 * 1e3 + t.nanos as f64 / 1e6
-}
-
-// The least of several runs, for one check.
-fn least(times: usize, mut run: impl FnMut()) -> f64 {
-    let mut best = f64::MAX;
-    for _ in 0..5 {
-        let began = now();
-        for _ in 0..times {
-            run();
-        }
-        best = best.min((now() - began) / times as f64);
-    }
-    best
-}
-
-struct Random(u64);
-
-impl Random {
-    fn below(&mut self, n: i32) -> i32 {
-        self.0 ^= self.0 << 13;
-        self.0 ^= self.0 >> 7;
-        self.0 ^= self.0 << 17;
-        (self.0 % n as u64) as i32
-    }
-}
-
-struct Input {
-    width: u32,
-    cells: Vec<u8>,
-    obstacles: Vec<PixelRect>,
-    query: WallQuery,
-}
-
 // A window of n by n in a map of at least 64 by 64 cells, with ends in opposite corners.
-fn input(n: i32, kind: &str, extent: u32, count: usize) -> Input {
+fn input(n: i32, kind: &str, extent: u32, count: usize) -> Case {
     let width = n.max(64);
     let (low, high) = (64, 64 + n);
-    let mut cells = vec![24u8; (width * width) as usize];
+    let mut cells = vec![PLAIN; (width * width) as usize];
     if kind == "maze" {
         // Walls one cell thick and corridors three cells wide, each wall open at one end.
         for (k, x) in (low / 8 + 2..high / 8 - 1).step_by(4).enumerate() {
@@ -74,13 +39,14 @@ fn input(n: i32, kind: &str, extent: u32, count: usize) -> Input {
         }
     }
     // All over the map, but for the window's top and right, so that a way is left; in a maze, but for the window.
-    let mut random = Random(88172645463325252);
-    let mut obstacles = Vec::new();
-    while obstacles.len() < count {
-        let (left, top) = (random.below(8 * width - 3), random.below(8 * width - 3));
+    let mut random = Random::new();
+    let mut place = || random.below(8 * width as usize - 3) as i32;
+    let mut words = Vec::new();
+    while words.len() < 4 * count {
+        let (left, top) = (place(), place());
         let lane = kind == "maze" || top < low + 24 || left > high - 24;
         if !(lane && (low - 12..high + 12).contains(&left) && (low - 12..high + 12).contains(&top)) {
-            obstacles.push(PixelRect { left, top, right: left + 3, bottom: top + 3 });
+            words.extend([left, top, left + 3, top + 3]);
         }
     }
     let collision = if kind == "blocked" { CollisionBounds { left: 2, top: 8192, right: 2, bottom: 8192 } } else { CollisionBounds { left: 8, top: 8, right: 7, bottom: 7 } };
@@ -90,49 +56,36 @@ fn input(n: i32, kind: &str, extent: u32, count: usize) -> Input {
     let mover = CollisionBounds { left: extent, top: extent, right: extent, bottom: extent };
     let end = PixelPosition { x: far, y: if kind == "maze" { near } else { far } };
     let window = PixelRect { left: low, top: low, right: high, bottom: high };
-    Input { width: width as u32, cells, obstacles, query: WallQuery { window, start: PixelPosition { x: near, y: near }, end, mover, buildings: vec![building] } }
-}
-
-fn query_words(q: &WallQuery) -> Vec<u64> {
-    let (w, b) = (q.window, q.buildings[0]);
-    let sides = [w.left, w.top, w.right, w.bottom].map(|s| s as u32);
-    let rest = [q.start.x, q.start.y, q.end.x, q.end.y, q.mover.left, q.mover.top, q.mover.right, q.mover.bottom];
-    let plan = [b.tile.x, b.tile.y, b.footprint.width_tiles, b.footprint.height_tiles, b.collision.left, b.collision.top, b.collision.right, b.collision.bottom];
-    sides.into_iter().chain(rest).chain(plan).map(u64::from).collect()
+    let query = WallQuery { window, start: PixelPosition { x: near, y: near }, end, mover, buildings: vec![building] };
+    Case { width: width as u32, height: width as u32, cells, words, query }
 }
 
 // Times of the original and of this checker, and the verdict.
-fn timed(input: &Input, n: usize) -> (f64, f64, WallPassage) {
-    let cell = |c: &u8| TerrainCell { walkable: c & 16 != 0, terrain_buildable: c & 8 != 0, elevation: c >> 1 & 3, ramp: c & 1 != 0 };
-    let grid = TerrainGrid::from_cells(input.width, input.width, input.cells.iter().map(cell).collect()).expect("a map");
-    let words: Vec<i32> = input.obstacles.iter().flat_map(|o| [o.left, o.top, o.right, o.bottom]).collect();
-    let query = query_words(&input.query);
-    let (difference, centers) = ((n + 1) * (n + 1), n * n);
-    let mut issues = vec![0u32; input.obstacles.len() + 2];
-    let (mut base, mut planned) = (vec![0u32; difference], vec![0u32; difference]);
-    let (mut parents, mut queue, mut route) = (vec![0u32; centers], vec![0u32; centers], vec![0u32; centers]);
-    let mut marks = vec![0u8; 2 * centers];
-    let mut answer = vec![0u64; 300];
+fn timed(case: &Case) -> (f64, f64, WallPassage) {
+    let (grid, obstacles) = (grid(case).expect("a map"), case.obstacles());
+    let theirs = || check_wall(black_box(&grid), &obstacles, &case.query).unwrap();
+    let query = case.query_words();
+    let [issues, base, planned, marks, parents, queue, route] = case.rooms();
+    // The queue has a place for each center.
+    let times = (1_000_000 / queue).clamp(1, 200);
+    let (mut issues, mut base, mut planned, mut marks) = (vec![0; issues], vec![0; base], vec![0; planned], vec![0; marks]);
+    let (mut parents, mut queue, mut route) = (vec![0; parents], vec![0; queue], vec![0; route]);
+    let mut answer = [0; CHECK_WORDS];
+    #[rustfmt::skip]
     let mut ours = || unsafe {
         walls_c_check(
-            input.width, input.width, input.cells.as_ptr(), input.cells.len(), words.as_ptr(), words.len(), query.as_ptr(), query.len(), 1,
+            case.width, case.height, case.cells.as_ptr(), case.cells.len(), case.words.as_ptr(), case.words.len(), query.as_ptr(), query.len(), 1,
             issues.as_mut_ptr(), issues.len(), base.as_mut_ptr(), base.len(), planned.as_mut_ptr(), planned.len(), marks.as_mut_ptr(), marks.len(),
             parents.as_mut_ptr(), parents.len(), queue.as_mut_ptr(), queue.len(), route.as_mut_ptr(), route.len(), answer.as_mut_ptr(), answer.len(),
         )
     };
     assert_eq!(ours(), 0);
-    let times = (1_000_000 / centers).clamp(1, 200);
-    let mine = least(times, || {
-        black_box(ours());
-    });
-    let theirs = least(times, || {
-        black_box(check_wall(black_box(&grid), &input.obstacles, &input.query).unwrap());
-    });
-    let check = check_wall(&grid, &input.obstacles, &input.query).unwrap();
-    let points: Vec<u32> = check.route.iter().map(|p| p.x << 16 | p.y).collect();
-    let passage = [WallPassage::StartBlocked, WallPassage::EndBlocked, WallPassage::Open, WallPassage::AlreadyDisconnected, WallPassage::BlockedWithinWindow];
-    assert_eq!((passage[answer[5] as usize], answer[6] != 0, &route[..answer[7] as usize]), (check.passage, check.baseline_passable, &points[..]));
-    (theirs, mine, check.passage)
+    let mine = least(5, times, &mut ours);
+    let original = least(5, times, theirs);
+    let check = theirs();
+    let points = route_words(&check);
+    assert_eq!((&answer[..], &route[..points.len()]), (&answer_words(Ok(&check))[..], &points[..]));
+    (original / 1e6, mine / 1e6, check.passage)
 }
 
 fn main() {
@@ -141,7 +94,7 @@ fn main() {
         for kind in ["open", "maze", "blocked"] {
             for extent in [0, 5] {
                 for obstacles in [0, 1000] {
-                    let (theirs, mine, passage) = timed(&input(n, kind, extent, obstacles), n as usize);
+                    let (theirs, mine, passage) = timed(&input(n, kind, extent, obstacles));
                     println!("{n:>5}  {kind:<8}{extent:>6}{obstacles:>10}  {:<20}{theirs:>12.4}{mine:>12.4}{:>8.1}", format!("{passage:?}"), theirs / mine);
                 }
             }

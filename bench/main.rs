@@ -1,17 +1,13 @@
 // Times the search against the original's `route`, and the marks against its stamps and `blocked_centers`, in one process:
 // processor nanoseconds a center, and how many times as fast. Both must give the same route and the same marks, and the
 // working areas must end as zeros. See bench/run.sh.
-#![allow(dead_code)]
+mod common;
+
+use common::{least, Random};
 use std::collections::VecDeque;
 use std::hint::black_box;
 
 include!(concat!(env!("BENCH_DIR"), "/original.rs"));
-
-#[repr(C)]
-struct Time {
-    seconds: i64,
-    nanos: i64,
-}
 
 // What the original's functions take, with the fields that they read and the sizes that they have there.
 #[derive(Clone, Copy)]
@@ -30,6 +26,8 @@ struct CollisionBounds {
     bottom: u32,
 }
 
+// Of its fields only the first is read.
+#[allow(dead_code)]
 struct TerrainCell {
     walkable: bool,
     terrain_buildable: bool,
@@ -53,49 +51,18 @@ impl TerrainGrid {
 }
 
 extern "C" {
-    fn clock_gettime(clock: i32, t: *mut Time) -> i32;
     fn bench_c_route(
-        marks: *const u8, marks_len: usize, w: usize, h: usize, parents: *mut u32, parents_len: usize, queue: *mut u32, queue_len: usize,
-        out: *mut u32, out_len: usize, start_x: u32, start_y: u32, end_x: u32, end_y: u32,
+        marks: *const u8, marks_len: usize, w: usize, h: usize, parents: *mut u32, parents_len: usize, queue: *mut u32, queue_len: usize, out: *mut u32, out_len: usize,
+        start_x: u32, start_y: u32, end_x: u32, end_y: u32,
     ) -> usize;
     fn bench_c_repeat(
-        marks: *const u8, marks_len: usize, w: usize, h: usize, parents: *mut u32, parents_len: usize, queue: *mut u32, queue_len: usize,
-        out: *mut u32, out_len: usize, start_x: u32, start_y: u32, end_x: u32, end_y: u32, times: usize,
+        marks: *const u8, marks_len: usize, w: usize, h: usize, parents: *mut u32, parents_len: usize, queue: *mut u32, queue_len: usize, out: *mut u32, out_len: usize,
+        start_x: u32, start_y: u32, end_x: u32, end_y: u32, times: usize,
     ) -> usize;
     fn bench_c_marks(
-        width: u32, height: u32, cells: *const u8, cells_len: usize, words: *const i32, words_len: usize, left: usize, top: usize, w: usize,
-        h: usize, extent: u32, plan: *const u32, plan_len: usize, base: *mut u32, base_len: usize, planned: *mut u32, planned_len: usize,
-        marks: *mut u8, marks_len: usize,
+        width: u32, height: u32, cells: *const u8, cells_len: usize, words: *const i32, words_len: usize, left: usize, top: usize, w: usize, h: usize, extent: u32,
+        plan: *const u32, plan_len: usize, base: *mut u32, base_len: usize, planned: *mut u32, planned_len: usize, marks: *mut u8, marks_len: usize,
     ) -> bool;
-}
-
-// Processor time of this thread, which other work on the machine does not lengthen much.
-fn now() -> f64 {
-    let mut t = Time { seconds: 0, nanos: 0 };
-    unsafe { clock_gettime(3, &mut t) };
-    t.seconds as f64 * 1e9 + t.nanos as f64
-}
-
-// The least of several runs, for one search.
-fn least(times: usize, mut run: impl FnMut(usize)) -> f64 {
-    let mut best = f64::MAX;
-    for _ in 0..7 {
-        let began = now();
-        run(times);
-        best = best.min((now() - began) / times as f64);
-    }
-    best
-}
-
-struct Random(u64);
-
-impl Random {
-    fn below(&mut self, n: usize) -> usize {
-        self.0 ^= self.0 << 13;
-        self.0 ^= self.0 >> 7;
-        self.0 ^= self.0 << 17;
-        (self.0 % n as u64) as usize
-    }
 }
 
 struct Case {
@@ -106,7 +73,7 @@ struct Case {
 
 fn case(kind: &str, n: usize) -> Case {
     let mut c = Case { blocked: vec![false; n * n], start: 0, end: n * n - 1 };
-    let mut random = Random(88172645463325252);
+    let mut random = Random::new();
     let b = &mut c.blocked;
     let mut scatter = |percent: usize| {
         for cell in b.iter_mut() {
@@ -172,12 +139,9 @@ struct Site {
 }
 
 fn site(side: usize, n: usize, obstacles: usize, extent: u32) -> Site {
-    let mut random = Random(88172645463325252);
+    let mut random = Random::new();
     let cells: Vec<u8> = (0..side * side).map(|_| if random.below(10) == 0 { 8 } else { 24 }).collect();
-    let grid = TerrainGrid {
-        width: side as u32,
-        cells: cells.iter().map(|c| TerrainCell { walkable: *c >= 16, terrain_buildable: true, elevation: 0, ramp: false }).collect(),
-    };
+    let grid = TerrainGrid { width: side as u32, cells: cells.iter().map(|c| TerrainCell { walkable: *c >= 16, terrain_buildable: true, elevation: 0, ramp: false }).collect() };
     let obstacles = (0..obstacles)
         .map(|_| {
             let (left, top) = (random.below(8 * side) as i32, random.below(8 * side) as i32);
@@ -227,6 +191,7 @@ fn time_marks() {
                 let room = (n + 1) * (n + 1);
                 let (mut base, mut planned, mut marks) = (vec![7u32; room], vec![9u32; room], vec![3u8; 2 * n * n]);
                 let corner = s.window.left as usize;
+                #[rustfmt::skip]
                 let mut once = || unsafe {
                     bench_c_marks(
                         side as u32, side as u32, s.cells.as_ptr(), s.cells.len(), words.as_ptr(), words.len(), corner, corner, n, n, extent,
@@ -235,8 +200,8 @@ fn time_marks() {
                 };
                 assert!(once());
                 let times = (4_000_000 / (n * n + side * side)).clamp(3, 1000);
-                let theirs = least(times, |k| for _ in 0..k { black_box(original_marks(black_box(&s), n)); });
-                let ours = least(times, |k| for _ in 0..k { black_box(once()); });
+                let theirs = least(7, times, || original_marks(black_box(&s), n));
+                let ours = least(7, times, &mut once);
                 let (before, after) = original_marks(&s, n);
                 assert!(before.iter().chain(&after).zip(&marks).all(|(b, m)| *b as u8 == *m), "{side} {n} {extent} {count}");
                 assert!(base.iter().chain(&planned).all(|x| *x == 0), "{side} {n} {extent} {count}");
@@ -257,19 +222,18 @@ fn time_routes() {
             let (mut parents, mut queue, mut out) = (vec![7u32; cells], vec![9u32; cells], vec![0u32; cells]);
             let (sx, sy, ex, ey) = ((c.start % n) as u32, (c.start / n) as u32, (c.end % n) as u32, (c.end / n) as u32);
             let wanted = route(&c.blocked, n, n, c.start, c.end).unwrap_or_default();
-            let mut once = || unsafe {
-                bench_c_route(marks.as_ptr(), cells, n, n, parents.as_mut_ptr(), cells, queue.as_mut_ptr(), cells, out.as_mut_ptr(), cells, sx, sy, ex, ey)
-            };
+            let mut once =
+                || unsafe { bench_c_route(marks.as_ptr(), cells, n, n, parents.as_mut_ptr(), cells, queue.as_mut_ptr(), cells, out.as_mut_ptr(), cells, sx, sy, ex, ey) };
             assert_eq!(once(), wanted.len(), "{kind} {n}");
             let times = (4_000_000 / cells).clamp(3, 1000);
-            let theirs = least(times, |k| for _ in 0..k { black_box(route(black_box(&c.blocked), n, n, c.start, c.end)); });
-            let ours = least(times, |k| for _ in 0..k { black_box(once()); });
+            let theirs = least(7, times, || route(black_box(&c.blocked), n, n, c.start, c.end));
+            let ours = least(7, times, &mut once);
             let words: Vec<u32> = wanted.iter().map(|p| ((p % n) * 65536 + p / n) as u32).collect();
             assert_eq!(&out[..wanted.len()], &words[..], "{kind} {n}");
             let many = times.max(100);
-            let again = least(many, |k| unsafe {
-                black_box(bench_c_repeat(marks.as_ptr(), cells, n, n, parents.as_mut_ptr(), cells, queue.as_mut_ptr(), cells, out.as_mut_ptr(), cells, sx, sy, ex, ey, k));
-            });
+            let repeat =
+                || unsafe { bench_c_repeat(marks.as_ptr(), cells, n, n, parents.as_mut_ptr(), cells, queue.as_mut_ptr(), cells, out.as_mut_ptr(), cells, sx, sy, ex, ey, many) };
+            let again = least(7, 1, repeat) / many as f64;
             assert_eq!(&out[..wanted.len()], &words[..], "{kind} {n}");
             assert!(parents.iter().chain(&queue).all(|x| *x == 0), "{kind} {n}");
             let a = cells as f64;

@@ -1,10 +1,13 @@
 //! Times reading a packed query of 1,024 by 1,024 cells beside the same reader written in Rust: a cursor by value, and each field from the five bytes at its place.
-use std::hint::black_box;
-use std::time::Instant;
+mod common;
+// Only the reading is called here.
+#[allow(dead_code)]
+#[path = "../bindings/rust/src/ffi.rs"]
+mod ffi;
 
-extern "C" {
-    fn walls_c_read_packed(packed: *const u8, packed_len: usize, cells: *mut u8, cells_len: usize, obstacles: *mut i32, obstacles_len: usize, answer: *mut u64, answer_len: usize) -> u64;
-}
+use common::{least, Random};
+use ffi::{walls_c_read_packed, READ_WORDS};
+use std::hint::black_box;
 
 #[derive(Copy, Clone)]
 struct Bits {
@@ -44,26 +47,21 @@ fn cells(s: &[u8], out: &mut [u8]) -> bool {
     true
 }
 
-fn least(mut f: impl FnMut()) -> f64 {
-    (0..41).map(|_| { let begin = Instant::now(); f(); begin.elapsed().as_secs_f64() * 1e3 }).fold(f64::MAX, f64::min)
-}
-
 fn main() {
     let count = 1024 * 1024;
     let mut packed = vec![0u8; (40 + 5 * count + 32 * 12 + 7) / 8];
     packed[..3].copy_from_slice(&[0xff, 0xff, 0xf0]);
-    let mut chance = 1u32;
+    let mut random = Random::new();
     for byte in &mut packed[5..5 + 5 * count / 8] {
-        chance = chance.wrapping_mul(1664525).wrapping_add(1013904223);
-        *byte = (chance >> 24) as u8;
+        *byte = random.below(256) as u8;
     }
-    let (mut ours, mut theirs, mut answer) = (vec![0u8; count], vec![0u8; count], vec![0u64; 277]);
-    let mut obstacles = [0i32; 1];
-    let rust = least(|| assert!(cells(black_box(&packed), black_box(&mut theirs))));
-    let this = least(|| {
+    let (mut ours, mut theirs, mut answer) = (vec![0u8; count], vec![0u8; count], [0; READ_WORDS]);
+    let mut obstacles = [0; 1];
+    let rust = least(41, 1, || assert!(cells(black_box(&packed), black_box(&mut theirs)))) / 1e6;
+    let this = least(41, 1, || {
         let number = unsafe { walls_c_read_packed(packed.as_ptr(), packed.len(), ours.as_mut_ptr(), ours.len(), obstacles.as_mut_ptr(), 1, answer.as_mut_ptr(), answer.len()) };
         assert_eq!(number, 0);
-    });
+    }) / 1e6;
     assert!(ours == theirs, "the cells differ");
     println!("1,048,576 cells: Rust {rust:.2} ms, this {this:.2} ms, {:.2} times as fast", rust / this);
 }

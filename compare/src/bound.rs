@@ -28,7 +28,11 @@ fn issue(i: &PlacementIssue) -> ours::PlacementIssue {
 
 fn converted(check: &WallCheck) -> ours::WallCheck {
     ours::WallCheck {
-        placements: check.placements.iter().map(|p| ours::WallPlacement { footprint: rect(p.footprint), collision: rect(p.collision), issues: p.issues.iter().map(issue).collect() }).collect(),
+        placements: check
+            .placements
+            .iter()
+            .map(|p| ours::WallPlacement { footprint: rect(p.footprint), collision: rect(p.collision), issues: p.issues.iter().map(issue).collect() })
+            .collect(),
         passage: match check.passage {
             WallPassage::StartBlocked => ours::WallPassage::StartBlocked,
             WallPassage::EndBlocked => ours::WallPassage::EndBlocked,

@@ -34,10 +34,10 @@ impl Case {
     }
 
     /// The query as words: window, ends, mover, and 8 for each of the first 32 buildings.
-    pub fn query_words(&self) -> Vec<u32> {
+    pub fn query_words(&self) -> Vec<u64> {
         let q = &self.query;
-        let mut words: Vec<u32> = [q.window.left, q.window.top, q.window.right, q.window.bottom].iter().map(|s| *s as u32).collect();
-        words.extend([q.start.x, q.start.y, q.end.x, q.end.y, q.mover.left, q.mover.top, q.mover.right, q.mover.bottom]);
+        let mut words = [q.window.left, q.window.top, q.window.right, q.window.bottom].map(|side| u64::from(side as u32)).to_vec();
+        words.extend([q.start.x, q.start.y, q.end.x, q.end.y, q.mover.left, q.mover.top, q.mover.right, q.mover.bottom].map(u64::from));
         for b in q.buildings.iter().take(32) {
             words.extend(building_words(b));
         }
@@ -68,20 +68,20 @@ impl Case {
             bits.put(u64::from(*word as u32), 32);
         }
         for word in self.query_words() {
-            bits.put(u64::from(word), 32);
+            bits.put(word, 32);
         }
         for b in self.query.buildings.iter().skip(32) {
             for word in building_words(b) {
-                bits.put(u64::from(word), 32);
+                bits.put(word, 32);
             }
         }
         bits.bytes
     }
 }
 
-fn building_words(b: &WallBuilding) -> [u32; 8] {
+fn building_words(b: &WallBuilding) -> [u64; 8] {
     let (t, f, c) = (b.tile, b.footprint, b.collision);
-    [t.x, t.y, f.width_tiles, f.height_tiles, c.left, c.top, c.right, c.bottom]
+    [t.x, t.y, f.width_tiles, f.height_tiles, c.left, c.top, c.right, c.bottom].map(u64::from)
 }
 
 #[derive(Default)]

@@ -1,32 +1,9 @@
 //! The library's calls, in areas with guards on both sides, so that every byte that must not change is looked at.
 use crate::case::{header, unpack, Case};
+use crate::ffi::{walls_c_check, walls_c_check_packed, walls_c_read_packed, walls_c_test_route, CHECK_WORDS, READ_WORDS, TEST_WORDS};
 use crate::oracle::{answer_words, issue_words, refusal_words, refuse, route_words, Refusal};
 use crate::random::Random;
 use original::walls::WallCheck;
-
-extern "C" {
-    fn walls_c_check(
-        width: u32, height: u32, cells: *const u8, cells_len: usize, obstacles: *const i32, obstacles_len: usize, query: *const u64,
-        query_len: usize, buildings: usize, issues: *mut u32, issues_len: usize, base: *mut u32, base_len: usize, planned: *mut u32,
-        planned_len: usize, marks: *mut u8, marks_len: usize, parents: *mut u32, parents_len: usize, queue: *mut u32, queue_len: usize,
-        route: *mut u32, route_len: usize, answer: *mut u64, answer_len: usize,
-    ) -> u64;
-    fn walls_c_check_packed(
-        packed: *const u8, packed_len: usize, cells: *mut u8, cells_len: usize, obstacles: *mut i32, obstacles_len: usize, issues: *mut u32,
-        issues_len: usize, base: *mut u32, base_len: usize, planned: *mut u32, planned_len: usize, marks: *mut u8, marks_len: usize,
-        parents: *mut u32, parents_len: usize, queue: *mut u32, queue_len: usize, route: *mut u32, route_len: usize, answer: *mut u64,
-        answer_len: usize,
-    ) -> u64;
-    fn walls_c_test_route(
-        width: u32, height: u32, cells: *const u8, cells_len: usize, obstacles: *const i32, obstacles_len: usize, query: *const u64,
-        query_len: usize, buildings: usize, list: *const u32, list_len: usize, base: *mut u32, base_len: usize, planned: *mut u32,
-        planned_len: usize, marks: *mut u8, marks_len: usize, answer: *mut u64, answer_len: usize,
-    ) -> u64;
-    fn walls_c_read_packed(
-        packed: *const u8, packed_len: usize, cells: *mut u8, cells_len: usize, obstacles: *mut i32, obstacles_len: usize, answer: *mut u64,
-        answer_len: usize,
-    ) -> u64;
-}
 
 const GUARD: usize = 8;
 
@@ -131,7 +108,7 @@ fn said(got: u64, answer: &Area<u64>, words: &[u64]) -> Result<(), String> {
 
 /// The query's words, with anything in the halves that don't count, and sometimes more words behind.
 fn query_words(case: &Case, random: &mut Random) -> Vec<u64> {
-    let mut words: Vec<u64> = case.query_words().iter().map(|w| u64::from(*w)).collect();
+    let mut words = case.query_words();
     if random.one_in(2) {
         for word in &mut words {
             *word |= random.next() << 32;
@@ -153,7 +130,8 @@ pub fn check(case: &Case, asked: &Result<WallCheck, Refusal>, lengths: [usize; 7
     let mut obstacles = Area::of(&case.words, || random.next() as i32);
     let words = query_words(case, random);
     let mut query = Area::of(&words, || random.next());
-    let mut answer = answer_area(300, random);
+    let mut answer = answer_area(CHECK_WORDS, random);
+    #[rustfmt::skip]
     let got = unsafe {
         walls_c_check(
             case.width, case.height, cells.lent(), cells.len(), obstacles.lent(), obstacles.len(), query.lent(), query.len(), case.query.buildings.len(),
@@ -178,7 +156,8 @@ pub fn test_route(case: &Case, asked: &Result<WallCheck, Refusal>, list: &[u32],
     let words = query_words(case, random);
     let mut query = Area::of(&words, || random.next());
     let mut points = Area::of(list, || random.next() as u32);
-    let mut answer = answer_area(6, random);
+    let mut answer = answer_area(TEST_WORDS, random);
+    #[rustfmt::skip]
     let got = unsafe {
         walls_c_test_route(
             case.width, case.height, cells.lent(), cells.len(), obstacles.lent(), obstacles.len(), query.lent(), query.len(), case.query.buildings.len(),
@@ -201,14 +180,14 @@ pub fn test_route(case: &Case, asked: &Result<WallCheck, Refusal>, list: &[u32],
     points.holds("list", &[])
 }
 
-/// The words of a reading's answer, 277 of them.
+/// The words of a reading's answer.
 fn read_words(read: Result<&Case, &Refusal>) -> Vec<u64> {
     let mut words = refusal_words(read.err());
     if let Ok(case) = read {
         words.extend([u64::from(case.width), u64::from(case.height), (case.words.len() / 4) as u64, case.query.buildings.len() as u64]);
-        words.extend(case.query_words().iter().map(|w| u64::from(*w)));
+        words.extend(case.query_words());
     }
-    words.resize(277, 0);
+    words.resize(READ_WORDS, 0);
     words
 }
 
@@ -225,10 +204,8 @@ pub fn packed(bytes: &[u8], ask: impl Fn(&Case) -> Result<WallCheck, Refusal>, l
     let mut packed = Area::of(bytes, || random.next() as u8);
     let mut cells = Area::filled(front[0], || random.next() as u8);
     let mut obstacles = Area::filled(front[1], || random.next() as i32);
-    let mut answer = answer_area(277, random);
-    let got = unsafe {
-        walls_c_read_packed(packed.lent(), packed.len(), cells.lent(), cells.len(), obstacles.lent(), obstacles.len(), answer.lent(), answer.len())
-    };
+    let mut answer = answer_area(READ_WORDS, random);
+    let got = unsafe { walls_c_read_packed(packed.lent(), packed.len(), cells.lent(), cells.len(), obstacles.lent(), obstacles.len(), answer.lent(), answer.len()) };
     let read = in_room(&unpacked, 0, &front, &needs);
     let read = read.as_ref().map(|case| *case);
     let held = |cells: &Area<u8>, obstacles: &Area<i32>, packed: &Area<u8>| {
@@ -244,7 +221,8 @@ pub fn packed(bytes: &[u8], ask: impl Fn(&Case) -> Result<WallCheck, Refusal>, l
     let mut a = Areas::new(lengths, random);
     let mut cells = Area::filled(front[0], || random.next() as u8);
     let mut obstacles = Area::filled(front[1], || random.next() as i32);
-    let mut answer = answer_area(300, random);
+    let mut answer = answer_area(CHECK_WORDS, random);
+    #[rustfmt::skip]
     let got = unsafe {
         walls_c_check_packed(
             packed.lent(), packed.len(), cells.lent(), cells.len(), obstacles.lent(), obstacles.len(), a.issues.lent(), a.issues.len(), a.base.lent(),

@@ -1,6 +1,8 @@
 //! Compares the proved library with the original. `compare run [QUERIES]`, `compare program PATH [TIMES]`, `compare store`.
 mod bound;
 mod case;
+#[path = "../../bindings/rust/src/ffi.rs"]
+mod ffi;
 mod generate;
 mod lent;
 mod oracle;

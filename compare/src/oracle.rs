@@ -1,6 +1,7 @@
 //! What the original answers, in this project's numbers and words. It knows neither cell bytes nor words nor lent areas: 3, 5 and 17 to 19
 //! are said here, and everything else is the original's own answer.
 use crate::case::{Case, PLAIN};
+use crate::ffi::CHECK_WORDS;
 use original::walls::{check_wall, PlacementIssue, WallCheck, WallEndpoint, WallError, WallPassage};
 use original::{AnalysisError, PixelPosition, TerrainCell, TerrainGrid};
 
@@ -25,7 +26,7 @@ pub fn ask(case: &Case) -> Result<WallCheck, Refusal> {
 }
 
 /// The grid that `from_cells` makes. A byte of 32 or more is no cell of the original: it is 3 where no faulty cell is before it.
-fn grid(case: &Case) -> Result<TerrainGrid, Refusal> {
+pub fn grid(case: &Case) -> Result<TerrainGrid, Refusal> {
     let bad = case.cells.iter().position(|c| *c >= 32);
     let cells = case.cells.iter().map(|c| if *c < 32 { *c } else { PLAIN });
     let cells = cells.map(|c| TerrainCell { walkable: c & 16 != 0, terrain_buildable: c & 8 != 0, elevation: c >> 1 & 3, ramp: c & 1 != 0 });
@@ -98,7 +99,7 @@ pub fn refusal_words(refusal: Option<&Refusal>) -> Vec<u64> {
     words
 }
 
-/// The words of a check's answer, 300 of them.
+/// The words of a check's answer.
 pub fn answer_words(asked: Result<&WallCheck, &Refusal>) -> Vec<u64> {
     let mut words = refusal_words(asked.err());
     if let Ok(check) = asked {
@@ -112,6 +113,6 @@ pub fn answer_words(asked: Result<&WallCheck, &Refusal>) -> Vec<u64> {
             words.push(p.issues.len() as u64);
         }
     }
-    words.resize(300, 0);
+    words.resize(CHECK_WORDS, 0);
     words
 }

@@ -25,9 +25,12 @@
 //! # Ok::<(), WallError>(())
 //! ```
 mod error;
+// A packed query is read and then checked, so its own call is not used here.
+#[allow(dead_code)]
 mod ffi;
 
 pub use error::{WallEndpoint, WallError};
+use ffi::{CHECK_WORDS, QUERY_WORDS, READ_WORDS, TEST_WORDS};
 
 /// Holds left ≤ x < right and top ≤ y < bottom.
 #[derive(Debug, Copy, Clone, Default, Eq, PartialEq, Hash)]
@@ -176,11 +179,7 @@ pub struct PackedQuery {
     pub query: WallQuery,
 }
 
-// How many words the answers and a query have (include/walls_c.h).
-const CHECK_WORDS: usize = 300;
-const TEST_WORDS: usize = 6;
-const READ_WORDS: usize = 277;
-const QUERY_WORDS: usize = 268;
+// More are refused, and need no words.
 const MAX_BUILDINGS: usize = 32;
 
 /// Checks static building placement and a bounded passage.
@@ -238,6 +237,7 @@ impl Checker {
         let mut answer = [0; TEST_WORDS];
         self.lend(query.window, obstacles.len() / 4, query.buildings.len());
         // What the header asks: each pointer comes with its slice's length, and the areas that are written are apart.
+        #[rustfmt::skip]
         let number = unsafe {
             ffi::walls_c_test_route(
                 grid.width, grid.height, grid.cells.as_ptr(), grid.cells.len(), obstacles.as_ptr(), obstacles.len(), words.as_ptr(), words.len(),
@@ -253,6 +253,7 @@ impl Checker {
         let mut answer = [0; CHECK_WORDS];
         self.lend(window, obstacles.len() / 4, buildings);
         // What the header asks: each pointer comes with its slice's length, and the areas that are written are apart.
+        #[rustfmt::skip]
         let number = unsafe {
             ffi::walls_c_check(
                 grid.width, grid.height, grid.cells.as_ptr(), grid.cells.len(), obstacles.as_ptr(), obstacles.len(), query.as_ptr(), query.len(), buildings,
@@ -293,7 +294,8 @@ impl Checker {
             .collect();
         WallCheck {
             placements,
-            passage: [WallPassage::StartBlocked, WallPassage::EndBlocked, WallPassage::Open, WallPassage::AlreadyDisconnected, WallPassage::BlockedWithinWindow][answer[5] as usize],
+            passage: [WallPassage::StartBlocked, WallPassage::EndBlocked, WallPassage::Open, WallPassage::AlreadyDisconnected, WallPassage::BlockedWithinWindow]
+                [answer[5] as usize],
             baseline_passable: answer[6] != 0,
             route: self.route[..answer[7] as usize].iter().map(|word| PixelPosition { x: word >> 16, y: word & 0xFFFF }).collect(),
             window: rect_of(&answer[8..12]),
