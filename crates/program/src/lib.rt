@@ -15,40 +15,12 @@ use model::Outcome;
 use model::WallError;
 use model::WallQuery;
 
-// The refusal's number in document 01's table.
-fn number(e: WallError) -> usize
-    ensures { λ r. ⌜ r ≡ refusal e .number ⌝ }
-{
-    match e {
-        WallError::InvalidGridDimensions { .. } => 1,
-        WallError::CellLength { .. } => 2,
-        WallError::BadCell { .. } => 3,
-        WallError::InvalidElevation { .. } => 4,
-        WallError::ObstacleWords { .. } => 5,
-        WallError::TooManyObstacles { .. } => 6,
-        WallError::InvalidObstacle { .. } => 7,
-        WallError::MoverExtentTooLarge => 8,
-        WallError::TooManyBuildings { .. } => 9,
-        WallError::InvalidWindow => 10,
-        WallError::WindowTooLarge { .. } => 11,
-        WallError::TooManyCenters { .. } => 12,
-        WallError::EndpointOutsideWindow { .. } => 13,
-        WallError::InvalidFootprint { .. } => 14,
-        WallError::CollisionExtentTooLarge { .. } => 15,
-        WallError::CoordinateOverflow { .. } => 16,
-        WallError::RoomTooSmall { .. } => 17,
-        WallError::PackedShort => 18,
-        WallError::PackedTail => 19,
-        WallError::ProgramLimit => 20,
-    }
-}
-
 // A refusal prints only its number.
 fn print_refusal(out: &mut [u8], e: WallError) -> usize
     requires { ⌜ refusedRoom ≤ length (now out) ⌝ }
     ensures { λ r. ⌜ Wrote (now (out .entry)) 0 (refusedText (refusal e .number)) (now (out .exit)) r ⌝ }
 {
-    report::refused(out, number(e))
+    report::refused(out, refusals::number(e))
 }
 
 // 18 where the header is not whole, and 20 by the header alone.

@@ -66,6 +66,15 @@ unfolding flatMap
 eight-each [] = refl
 eight-each (b ∷ bs) = omega (arith, eight-each bs)
 
+-- four words that are read one by one
+pub four-read : (ws : List ℕ) → length ws ≡ 4 → getD ws 0 0 ∷ getD ws 1 0 ∷ getD ws 2 0 ∷ getD ws 3 0 ∷ [] ≡ ws
+four-read [] h = absurd (omega arith)
+four-read (a ∷ []) h = absurd (omega arith)
+four-read (a ∷ b ∷ []) h = absurd (omega arith)
+four-read (a ∷ b ∷ c ∷ []) h = absurd (omega arith)
+four-read (a ∷ b ∷ c ∷ d ∷ []) h = refl
+four-read (a ∷ b ∷ c ∷ d ∷ e ∷ ws) h = absurd (omega arith)
+
 -- an outcome has five words
 pub five : (o : Outcome) → length (refusalWords (given o)) ≡ 5
 five Accepted = refl

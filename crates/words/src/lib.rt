@@ -1,12 +1,11 @@
 // A query from words, and answers as words, for hosts in other languages.
 ghost use mathlib.Core.Path.{_≡_};
 ghost use mathlib.Core.List.{[], _∷_, flatMap};
-ghost use mathlib.Core.Option.{some};
 ghost use Prim.Native.Nat.{_+_, _*_, _≤_, _<_};
 ghost use lib.ListN.{set, take};
 ghost use Rattle.model.specs.Lists.{table};
 ghost use Rattle.model.specs.Passage.{rank};
-ghost use Rattle.model.specs.Refusal.{given, endNumber, refusal};
+ghost use Rattle.model.specs.Refusal.{given};
 ghost use Rattle.model.specs.Words.{wordAt, pointAt, extentsAt, rectAt, buildingAt, queryOf, bits, flag, number, refusalWords, rectWords, passedWords, placementWords, checkWords, testWords, endWords, buildingWords, queryWords, readWords, written};
 use model::CollisionBounds;
 use model::DepotFootprint;
@@ -19,8 +18,6 @@ use model::Plan;
 use model::TestReply;
 use model::TilePosition;
 use model::WallBuilding;
-use model::WallEndpoint;
-use model::WallError;
 use model::WallPassage;
 use model::WallPlacement;
 use model::WallQuery;
@@ -143,15 +140,6 @@ fn flag_word(b: bool) -> u64
     if b { 1 } else { 0 }
 }
 
-fn end_word(end: WallEndpoint) -> u64
-    ensures { λ r. ⌜ r ≡ endNumber end ⌝ }
-{
-    match end {
-        WallEndpoint::Start => 0,
-        WallEndpoint::End => 1,
-    }
-}
-
 fn passage_word(passage: WallPassage) -> u64
     ensures { λ r. ⌜ r ≡ rank passage ⌝ }
 {
@@ -165,69 +153,22 @@ fn passage_word(passage: WallPassage) -> u64
 }
 
 // Five words, and four zeros behind them.
-fn nine(number: u64, a: u64, b: u64, c: u64, d: u64) -> [u64; 9]
-    ensures { λ r. ⌜ r ≡ number ∷ a ∷ b ∷ c ∷ d ∷ 0 ∷ 0 ∷ 0 ∷ 0 ∷ [] ⌝ }
+fn five_words(a: u64, b: u64, c: u64, d: u64, e: u64) -> [u64; 9]
+    ensures { λ r. ⌜ r ≡ a ∷ b ∷ c ∷ d ∷ e ∷ 0 ∷ 0 ∷ 0 ∷ 0 ∷ [] ⌝ }
 {
-    [number, a, b, c, d, 0, 0, 0, 0]
+    [a, b, c, d, e, 0, 0, 0, 0]
 }
 
-// A refusal's number and values first.
-fn refusal_words(e: WallError) -> [u64; 9]
-    ensures { λ r. ⌜ take 5 r ≡ refusalWords (some (refusal e)) ⌝ }
-{
-    match e {
-        WallError::InvalidGridDimensions { width, height } => {
-            nine(1, width as u64, height as u64, 0, 0)
-        }
-        WallError::CellLength {
-            width,
-            height,
-            expected,
-            actual,
-        } => nine(
-            2,
-            width as u64,
-            height as u64,
-            expected as u64,
-            actual as u64,
-        ),
-        WallError::BadCell { index } => nine(3, index as u64, 0, 0, 0),
-        WallError::InvalidElevation { index, elevation } => {
-            nine(4, index as u64, elevation as u64, 0, 0)
-        }
-        WallError::ObstacleWords { length } => nine(5, length as u64, 0, 0, 0),
-        WallError::TooManyObstacles { actual } => nine(6, actual as u64, 0, 0, 0),
-        WallError::InvalidObstacle { index } => nine(7, index as u64, 0, 0, 0),
-        WallError::MoverExtentTooLarge => nine(8, 0, 0, 0, 0),
-        WallError::TooManyBuildings { actual } => nine(9, actual as u64, 0, 0, 0),
-        WallError::InvalidWindow => nine(10, 0, 0, 0, 0),
-        WallError::WindowTooLarge { width, height } => {
-            nine(11, width as u64, height as u64, 0, 0)
-        }
-        WallError::TooManyCenters { centers } => nine(12, centers as u64, 0, 0, 0),
-        WallError::EndpointOutsideWindow { endpoint, x, y } => {
-            nine(13, end_word(endpoint), x as u64, y as u64, 0)
-        }
-        WallError::InvalidFootprint {
-            index,
-            width_tiles,
-            height_tiles,
-        } => nine(14, index as u64, width_tiles as u64, height_tiles as u64, 0),
-        WallError::CollisionExtentTooLarge { index } => nine(15, index as u64, 0, 0, 0),
-        WallError::CoordinateOverflow { index } => nine(16, index as u64, 0, 0, 0),
-        WallError::RoomTooSmall { area } => nine(17, area as u64, 0, 0, 0),
-        WallError::PackedShort => nine(18, 0, 0, 0, 0),
-        WallError::PackedTail => nine(19, 0, 0, 0, 0),
-        WallError::ProgramLimit => nine(20, 0, 0, 0, 0),
-    }
-}
-
+// The number and the values of a refusal first, zeros where there is none.
 fn outcome_words(outcome: Outcome) -> [u64; 9]
     ensures { λ r. ⌜ take 5 r ≡ refusalWords (given outcome) ⌝ }
 {
     match outcome {
-        Outcome::Accepted => nine(0, 0, 0, 0, 0),
-        Outcome::Refused(e) => refusal_words(e),
+        Outcome::Accepted => five_words(0, 0, 0, 0, 0),
+        Outcome::Refused(e) => {
+            let v = refusals::values(e);
+            five_words(refusals::number(e) as u64, v[0], v[1], v[2], v[3])
+        }
     }
 }
 
@@ -409,7 +350,7 @@ fn put_query(out: &mut [u64], query: WallQuery)
     let plan = query.plan;
     let buildings = plan.buildings;
     let w = rect_words(window);
-    put_words(out, 9, nine(w[0], w[1], w[2], w[3], 0), 4);
+    put_words(out, 9, five_words(w[0], w[1], w[2], w[3], 0), 4);
     put_words(out, 13, end_words(query.start, query.end, query.mover), 8);
     put_plan(out, 21, buildings);
 }
@@ -421,7 +362,7 @@ pub fn put_read(out: &mut [u64], reply: PackedReply) -> u64
     let packed = reply.packed;
     let query = packed.query;
     let plan = query.plan;
-    let sizes = nine(
+    let sizes = five_words(
         packed.width as u64,
         packed.height as u64,
         packed.obstacles as u64,

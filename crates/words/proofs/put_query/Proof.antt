@@ -13,20 +13,20 @@ use Rattle.words.proofs.put_query.Tie as tie
 rect-words-requires : tie.Need-rect-words-requires
 rect-words-requires c κs = search needs
 
-array-read-nine : tie.Need-array-read-nine
-array-read-nine c = search needs
+array-read-five-words : tie.Need-array-read-five-words
+array-read-five-words c = search needs
 
-array-read-nine-2 : tie.Need-array-read-nine-2
-array-read-nine-2 c = search needs
+array-read-five-words-2 : tie.Need-array-read-five-words-2
+array-read-five-words-2 c = search needs
 
-array-read-nine-3 : tie.Need-array-read-nine-3
-array-read-nine-3 c = search needs
+array-read-five-words-3 : tie.Need-array-read-five-words-3
+array-read-five-words-3 c = search needs
 
-array-read-nine-4 : tie.Need-array-read-nine-4
-array-read-nine-4 c = search needs
+array-read-five-words-4 : tie.Need-array-read-five-words-4
+array-read-five-words-4 c = search needs
 
-nine-requires : tie.Need-nine-requires
-nine-requires c κs = search needs
+five-words-requires : tie.Need-five-words-requires
+five-words-requires c κs = search needs
 
 put-words-requires : tie.Need-put-words-requires
 put-words-requires c κs = search needs
@@ -52,7 +52,7 @@ returns c =
     let a = r .before .before .before .before .before .args in
     let q = a .query in
     let window : w .put-words .last .0 ≡ written 9 (rectWords (q .window)) (now (a .out)) =
-    w .put-words .ensures ∙ (ap (λ (ws : List ℕ). written 9 (take 4 ws) (now (a .out))) (w .before .nine .ensures) ∙ ap (λ (ws : List ℕ). written 9 (getD ws 0 0 ∷ getD ws 1 0 ∷ getD ws 2 0 ∷ getD ws 3 0 ∷ []) (now (a .out))) (r .rect-words .ensures)) in
+    w .put-words .ensures ∙ (ap (λ (ws : List ℕ). written 9 (take 4 ws) (now (a .out))) (w .before .five-words .ensures) ∙ ap (λ (ws : List ℕ). written 9 (getD ws 0 0 ∷ getD ws 1 0 ∷ getD ws 2 0 ∷ getD ws 3 0 ∷ []) (now (a .out))) (r .rect-words .ensures)) in
     let ends = endWords (q .start) (q .end) (q .mover) in
     let plan = flatMap buildingWords (q .plan .buildings) in
     let told : e .put-words2 .last .0 ≡ written 13 ends (w .put-words .last .0) = e .put-words2 .ensures ∙ ap (λ (ws : List ℕ). written 13 ws (w .put-words .last .0)) (e .before .end-words .ensures) in
@@ -64,11 +64,11 @@ put-query-spec =
     tie.close
     (tie.spec
     rect-words-requires
-    array-read-nine
-    array-read-nine-2
-    array-read-nine-3
-    array-read-nine-4
-    nine-requires
+    array-read-five-words
+    array-read-five-words-2
+    array-read-five-words-3
+    array-read-five-words-4
+    five-words-requires
     put-words-requires
     end-words-requires
     put-words-requires-2

@@ -12,14 +12,14 @@ use borrow.Author.Needs.{needs}
 use Rattle.words.proofs.put_read.Statement.{statement}
 use Rattle.words.proofs.put_read.Tie as tie
 
-cast-nine : tie.Need-cast-nine
-cast-nine c = search needs
+cast-five-words : tie.Need-cast-five-words
+cast-five-words c = search needs
 
-cast-nine-2 : tie.Need-cast-nine-2
-cast-nine-2 c = search needs
+cast-five-words-2 : tie.Need-cast-five-words-2
+cast-five-words-2 c = search needs
 
-nine-requires : tie.Need-nine-requires
-nine-requires c κs = search needs
+five-words-requires : tie.Need-five-words-requires
+five-words-requires c κs = search needs
 
 put-outcome-requires : tie.Need-put-outcome-requires
 put-outcome-requires c κs = search needs
@@ -43,7 +43,7 @@ returns c =
     let r = a .reply .packed in
     let told = o .put-outcome .ensures in
     let sizes = r .width ∷ r .height ∷ r .obstacles ∷ r .query .plan .count ∷ [] in
-    let first : w .put-words .last .0 ≡ written 5 sizes (o .put-outcome .last .0) = w .put-words .ensures ∙ ap (λ (ws : List ℕ). written 5 (take 4 ws) (o .put-outcome .last .0)) (n .nine .ensures) in
+    let first : w .put-words .last .0 ≡ written 5 sizes (o .put-outcome .last .0) = w .put-words .ensures ∙ ap (λ (ws : List ℕ). written 5 (take 4 ws) (o .put-outcome .last .0)) (n .five-words .ensures) in
     let rest : q .put-query .last .0 ≡ written 5 (sizes ++ queryWords (r .query)) (o .put-outcome .last .0) = both 5 9 sizes (queryWords (r .query)) _ _ _ first (q .put-query .ensures) refl in
     (both 0 5 (refusalWords (given (a .reply .outcome))) (sizes ++ queryWords (r .query)) (now (a .out)) _ _ (told .0) rest (omega (arith, five (a .reply .outcome))), told .1)
 
@@ -51,9 +51,9 @@ pub put-read-spec : {M : Type 1} → statement M
 put-read-spec =
     tie.close
     (tie.spec
-    cast-nine
-    cast-nine-2
-    nine-requires
+    cast-five-words
+    cast-five-words-2
+    five-words-requires
     put-outcome-requires
     put-words-requires
     put-query-requires

@@ -1,7 +1,7 @@
--- `program::number` meets its contract, case by case. Assumes nothing.
+-- `refusals::number` meets its contract, case by case. Assumes nothing.
 use borrow.Author.Needs.{needs}
-use Rattle.program.proofs.number.Statement.{statement}
-use Rattle.program.proofs.number.Tie as tie
+use Rattle.refusals.proofs.number.Statement.{statement}
+use Rattle.refusals.proofs.number.Tie as tie
 
 enum-told : tie.Need-enum-told
 enum-told c = search needs
