@@ -14,35 +14,27 @@ Inv-loop words₀ i₀ words i = (i ≤ 32800) × (length words ≡ 32800)
 abbrev μ-loop : tie.MeasureT-loop
 μ-loop words₀ i₀ words i = 32800 - i
 
--- src/main.rt:439:5
 loop-holds : tie.Need-loop-holds Inv-loop μ-loop
 loop-holds c = (omega arith, length-replicate 32800 (pos 0))
 
--- src/main.rt:440:20
 cast-words : tie.Need-cast-words Inv-loop μ-loop
 cast-words c = search needs
 
--- src/main.rt:440:9
 mul-words : tie.Need-mul-words Inv-loop μ-loop
 mul-words c = search needs
 
--- src/main.rt:440:9
 array-set-from-words : tie.Need-array-set-from-words Inv-loop μ-loop
 array-set-from-words c = search needs
 
--- src/main.rt:441:9
 add-i : tie.Need-add-i Inv-loop μ-loop
 add-i c = search needs
 
--- src/main.rt:439:5
 loop-less : tie.Need-loop-less Inv-loop μ-loop
 loop-less c = search needs
 
--- src/main.rt:439:5
 loop-again : tie.Need-loop-again Inv-loop μ-loop
 loop-again c = simp length-set (omega arith)
 
--- src/main.rt:434:1
 returns : tie.Need-returns Inv-loop μ-loop
 returns c = omega arith
 

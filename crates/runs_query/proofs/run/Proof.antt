@@ -5,63 +5,48 @@ use borrow.Author.Needs.{needs}
 use Rattle.runs_query.proofs.run.Statement.{statement}
 use Rattle.runs_query.proofs.run.Tie as tie
 
--- src/main.rt:409:17
 array-read-cells : tie.Need-array-read-cells
 array-read-cells c = search needs
 
--- src/main.rt:409:16
 cast-cells : tie.Need-cast-cells
 cast-cells c = search needs
 
--- src/main.rt:409:5
 array-write-cells : tie.Need-array-write-cells
 array-write-cells c = search needs
 
--- src/main.rt:410:17
 array-read-cells-2 : tie.Need-array-read-cells-2
 array-read-cells-2 c = search needs
 
--- src/main.rt:410:16
 cast-cells-2 : tie.Need-cast-cells-2
 cast-cells-2 c = search needs
 
--- src/main.rt:410:5
 array-write-cells-2 : tie.Need-array-write-cells-2
 array-write-cells-2 c = search needs
 
--- src/main.rt:411:21
 array-read-at-most : tie.Need-array-read-at-most
 array-read-at-most c = search needs
 
--- src/main.rt:411:9
 at-most-requires : tie.Need-at-most-requires
 at-most-requires c κs = search needs
 
--- src/main.rt:412:9
 query-of-requires : tie.Need-query-of-requires
 query-of-requires c κs = search needs
 
--- src/main.rt:413:27
 array-read-validate-query : tie.Need-array-read-validate-query
 array-read-validate-query c = search needs
 
--- src/main.rt:413:36
 array-read-validate-query-2 : tie.Need-array-read-validate-query-2
 array-read-validate-query-2 c = search needs
 
--- src/main.rt:413:45
 array-share-prefix-cells : tie.Need-array-share-prefix-cells
 array-share-prefix-cells c = search needs
 
--- src/main.rt:413:45
 slice-aggregate-validate-query : tie.Need-slice-aggregate-validate-query
 slice-aggregate-validate-query c = simp length-take (omega arith)
 
--- src/main.rt:413:5
 validate-query-requires : tie.Need-validate-query-requires
 validate-query-requires c κs = search needs
 
--- src/main.rt:407:1
 returns : tie.Need-returns
 returns c = search needs
 

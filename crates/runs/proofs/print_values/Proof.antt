@@ -1,0 +1,50 @@
+-- `runs::print_values` is safe and ends. Assumes nothing.
+use Prim.Native.Nat.{_≤_, _-_}
+use borrow.Author.Needs.{needs}
+use Rattle.runs.proofs.print_values.Statement.{statement}
+use Rattle.runs.proofs.print_values.Tie as tie
+
+abbrev Inv-loop : tie.InvT-loop
+Inv-loop count values i₀ i = i ≤ 4
+
+abbrev μ-loop : tie.MeasureT-loop
+μ-loop count values i₀ i = 4 - i
+
+loop-holds : tie.Need-loop-holds Inv-loop μ-loop
+loop-holds c = search needs
+
+mul-print-word : tie.Need-mul-print-word Inv-loop μ-loop
+mul-print-word c = search needs
+
+array-read-print-word : tie.Need-array-read-print-word Inv-loop μ-loop
+array-read-print-word c = search needs
+
+print-word-requires : tie.Need-print-word-requires Inv-loop μ-loop
+print-word-requires c κs = search needs
+
+add-i : tie.Need-add-i Inv-loop μ-loop
+add-i c = search needs
+
+loop-less : tie.Need-loop-less Inv-loop μ-loop
+loop-less c = search needs
+
+loop-again : tie.Need-loop-again Inv-loop μ-loop
+loop-again c = search needs
+
+returns : tie.Need-returns Inv-loop μ-loop
+returns c = search needs
+
+pub print-values-spec : {M : Type 1} → statement M
+print-values-spec =
+    tie.close
+    (tie.spec
+    Inv-loop
+    μ-loop
+    loop-holds
+    mul-print-word
+    array-read-print-word
+    print-word-requires
+    add-i
+    loop-less
+    loop-again
+    returns)
