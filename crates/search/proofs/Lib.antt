@@ -5,5 +5,6 @@ pub mod Corners
 pub mod Codes
 pub mod Frontier
 pub mod Noted
+pub mod Entering
 pub mod Moves
 pub mod Trying
