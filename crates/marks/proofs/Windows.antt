@@ -1,12 +1,12 @@
 -- A window of the map, by the naturals of its corner and its size. Assumes nothing.
 use mathlib.Core.Path.{_≡_, ap, subst, _∙_}
-use mathlib.Core.Bool.{true, _&&_}
+use mathlib.Core.Bool.{true}
 use Prim.Native.Nat.{ℕ, _+_, _≤_, _<_}
 use native.Mathlib.Omega.{arith}
 use lib.Dec.{T, leb, ltb, leb→le, ltb→lt}
 use lib.IntN.{pos, natAbs}
 use borrow.Author.Tests.{lt-ltb, le-leb}
-use Rattle.numbers.proofs.Tests.{left-of, right-of}
+use Rattle.numbers.proofs.Tests.{each-of-four}
 use Rattle.model.specs.declared.PixelRect.{PixelRect}
 use Rattle.model.specs.Boxes.{holds, widthOf, heightOf}
 use Rattle.model.specs.Accepted.{Windowed}
@@ -39,10 +39,5 @@ module _ {width height : ℕ} {w : PixelRect} (s : Windowed width height w) wher
       held : T (holds (flat (left w) (top w) (left w + widthOf w) (top w + heightOf w)) (pos x) (pos y))
           → (left w ≤ x) × (x < left w + widthOf w) × (top w ≤ y) × (y < top w + heightOf w)
       held k =
-          let a = leb (left w) x in
-          let b = ltb x (left w + widthOf w) in
-          let c = leb (top w) y in
-          let d = ltb y (top w + heightOf w) in
-          let k3 = left-of (a && b && c) d k in
-          let k2 = left-of (a && b) c k3 in
-          (leb→le (left w) x (left-of a b k2), ltb→lt x (left w + widthOf w) (right-of a b k2), leb→le (top w) y (right-of (a && b) c k3), ltb→lt y (top w + heightOf w) (right-of (a && b && c) d k))
+          let f = each-of-four (leb (left w) x) (ltb x (left w + widthOf w)) (leb (top w) y) (ltb y (top w + heightOf w)) k in
+          (leb→le (left w) x (f .0), ltb→lt x (left w + widthOf w) (f .1), leb→le (top w) y (f .2), ltb→lt y (top w + heightOf w) (f .3))

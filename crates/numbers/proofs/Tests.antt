@@ -29,6 +29,17 @@ pub both : (a b : Bool) → T a → T b → T (a && b)
 both true b h k = k
 both false b h k = absurd h
 
+-- four of them, as of a rectangle's sides
+module _ (a b c d : Bool) where
+  pub each-of-four : T (a && b && c && d) → T a × T b × T c × T d
+  each-of-four h =
+      let three = left-of (a && b && c) d h in
+      let two = left-of (a && b) c three in
+      (left-of a b two, right-of a b two, right-of (a && b) c three, right-of (a && b && c) d h)
+
+  pub all-four : T a → T b → T c → T d → T (a && b && c && d)
+  all-four h k l m = both (a && b && c) d (both (a && b) c (both a b h k) l) m
+
 -- the first test holds, so the second decides
 pub then-so : (a b : Bool) → T a → T (not a || b) → T b
 then-so true b h k = k

@@ -1,5 +1,5 @@
 -- What a search of the cells or of the obstacles shows of their lines. Assumes nothing.
-use mathlib.Core.Path.{_≡_, ap, _∙_}
+use mathlib.Core.Path.{_≡_}
 use mathlib.Core.Bool.{true, false}
 use mathlib.Core.List.{List, [], _∷_}
 use mathlib.Core.Option.{none, some}
@@ -18,13 +18,11 @@ use Rattle.query_ground.specs.Searches.{isFaulty, FirstFault, hollowLine
 module _ (cells : List ℕ) (r : ℕ) (f : FirstFault cells r) where
   kept : r < length cells → (rest : List ℕ) × (faulty cells ≡ r ∷ rest)
   unfolding faulty
-  kept m =
-      let k = first-kept isFaulty 0 0 cells r m (f .passed) (f .found m) in
-      (k .0, k .1 ∙ ap (λ (i : ℕ). i ∷ k .0) (omega arith))
+  kept m = first-kept (λ i c. isFaulty c) 0 cells r m (f .passed) (f .found m)
 
   pub no-fault : length cells ≤ r → first (cellLines cells (faulty cells)) ≡ none
   unfolding first cellLines faulty
-  no-fault h = rw (none-kept isFaulty 0 0 cells (λ k m. f .passed k (omega arith)))
+  no-fault h = rw (none-kept (λ i c. isFaulty c) 0 cells (λ k m. f .passed k (omega arith)))
 
   pub bad-cell : r < length cells → 32 ≤ getD cells r 0 → first (cellLines cells (faulty cells)) ≡ some (refuse 3 (r ∷ []))
   unfolding first cellLines
@@ -38,11 +36,9 @@ module _ (cells : List ℕ) (r : ℕ) (f : FirstFault cells r) where
 module _ (ws : List ℤ) where
   pub none-hollow : ((k : ℕ) → k < length (rects ws) → hollow (getD (rects ws) k noRect) ≡ false) → first (hollowLines ws) ≡ none
   unfolding first
-  none-hollow h = rw (none-kept hollow noRect 0 (rects ws) h)
+  none-hollow h = rw (none-kept (λ i r. hollow r) noRect (rects ws) h)
 
   pub first-hollow : (i : ℕ) → i < length (rects ws) → ((k : ℕ) → k < i → hollow (getD (rects ws) k noRect) ≡ false) → hollow (getD (rects ws) i noRect) ≡ true
       → first (hollowLines ws) ≡ some (refuse 7 (i ∷ []))
   unfolding first
-  first-hollow i m h e =
-      let k = first-kept hollow noRect 0 (rects ws) i m h e in
-      rw (k .1) (ap (λ (j : ℕ). some (refuse 7 (j ∷ []))) (omega arith))
+  first-hollow i m h e = rw (first-kept (λ i r. hollow r) noRect (rects ws) i m h e .1)

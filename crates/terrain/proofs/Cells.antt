@@ -6,16 +6,15 @@ use Prim.Native.Nat.{ℕ, _+_, _-_, _*_, _/_, _%_, _≤_, _<_}
 use native.Mathlib.Omega.{arith}
 use native.Mathlib.Decide.{decLt}
 use lib.Dec.{T}
-use lib.IntN.{ℤ, pos, _-ℤ_}
+use lib.IntN.{pos}
 use lib.ListN.{getD}
-use lib.Signed.{ltZ}
 use borrow.Author.Tests.{eq-eqb, ne-eqb}
-use Rattle.numbers.specs.Integers.{up, dn}
-use Rattle.numbers.proofs.Integers.{<-nat, nat-<, sub-nat}
-use Rattle.numbers.proofs.Tests.{is-false, left-of, right-of, both}
+use Rattle.numbers.proofs.Integers.{sub-nat}
+use Rattle.numbers.proofs.Tests.{is-false, left-of}
 use Rattle.model.specs.declared.CollisionBounds.{CollisionBounds}
 use Rattle.model.specs.Boxes.{meets, around}
 use Rattle.model.specs.Ground.{walkable}
+use Rattle.model.proofs.Meeting.{meeting, they-meet}
 use Rattle.stamps.specs.declared.Frame.{Frame}
 use Rattle.stamps.specs.Stamps.{stop, among, flat}
 use Rattle.stamps.proofs.Some.{Passing, both-ways, passing, passed, among-join, among-same}
@@ -28,42 +27,15 @@ pub record Reaches (m : CollisionBounds) (x y l t r b : ℕ) : Type 0 where
   pub above : y < b + m .top
   pub below : t ≤ y + m .bottom
 
-less : (a b : ℤ) → T (ltZ a b) → up a + dn b < up b + dn a
-less a b t = <-nat {a = a} {b = b} (record { lt = t })
-
 module _ (m : CollisionBounds) (x y l t r b : ℕ) where
-  abbrev first : Bool
-  first = ltZ (pos x -ℤ pos (m .left)) (pos r)
-
-  abbrev second : Bool
-  second = ltZ (pos l) (pos (x + m .right + 1))
-
-  abbrev third : Bool
-  third = ltZ (pos y -ℤ pos (m .top)) (pos b)
-
-  abbrev fourth : Bool
-  fourth = ltZ (pos t) (pos (y + m .bottom + 1))
-
   pub reaches : T (meets (around m x y) (flat l t r b)) → Reaches m x y l t r b
-  unfolding meets
   reaches h =
-      let h3 = left-of (first && second && third) fourth h in
-      let h2 = left-of (first && second) third h3 in
-      record {
-        before = omega (arith, less (pos x -ℤ pos (m .left)) (pos r) (left-of first second h2), sub-nat (pos x) (pos (m .left)));
-        after = omega (arith, less (pos l) (pos (x + m .right + 1)) (right-of first second h2));
-        above = omega (arith, less (pos y -ℤ pos (m .top)) (pos b) (right-of (first && second) third h3), sub-nat (pos y) (pos (m .top)));
-        below = omega (arith, less (pos t) (pos (y + m .bottom + 1)) (right-of (first && second && third) fourth h));
-      }
+      let k = meeting (around m x y) (flat l t r b) h in
+      record { before = omega (arith, sub-nat (pos x) (pos (m .left))); after = omega arith; above = omega (arith, sub-nat (pos y) (pos (m .top))); below = omega arith }
 
   pub reached : Reaches m x y l t r b → T (meets (around m x y) (flat l t r b))
-  unfolding meets
   reached k =
-      let a : T first = nat-< {a = pos x -ℤ pos (m .left)} {b = pos r} (omega (arith, sub-nat (pos x) (pos (m .left)))) .lt in
-      let c : T second = nat-< {a = pos l} {b = pos (x + m .right + 1)} (omega arith) .lt in
-      let d : T third = nat-< {a = pos y -ℤ pos (m .top)} {b = pos b} (omega (arith, sub-nat (pos y) (pos (m .top)))) .lt in
-      let e : T fourth = nat-< {a = pos t} {b = pos (y + m .bottom + 1)} (omega arith) .lt in
-      both (first && second && third) fourth (both (first && second) third (both first second a c) d) e
+      they-meet (around m x y) (flat l t r b) (record { left = omega (arith, sub-nat (pos x) (pos (m .left))); right = omega arith; top = omega (arith, sub-nat (pos y) (pos (m .top))); bottom = omega arith })
 
 module _ (f : Frame) (m : CollisionBounds) (row from to : ℕ) (x y : ℕ) where
   abbrev X : ℕ

@@ -1,4 +1,4 @@
--- `footprints::first_bad_cell` meets its contract. The invariant: of the cells above the present row, none under the building is unfit. Assumes nothing.
+-- `footprints::first_bad_cell` meets its contract. The invariant: of the cells in the rows above, none under the building is unfit. Assumes nothing.
 use mathlib.Core.Path.{sym, ap, subst, _∙_}
 use Prim.Native.Nat.{_+_, _*_, _-_, _≤_}
 use native.Mathlib.Omega.{arith}
@@ -12,7 +12,7 @@ use Rattle.footprints.proofs.first_bad_cell.Statement.{statement}
 use Rattle.footprints.proofs.first_bad_cell.Tie as tie
 
 abbrev Inv-loop : tie.InvT-loop
-Inv-loop width cells w left right top bottom y₀ y = (top ≤ y) × Clear w left right top bottom cells (y * w)
+Inv-loop width cells w left right top bottom y₀ y = (top ≤ y) × Clear w left right top bottom cells y
 
 abbrev μ-loop : tie.MeasureT-loop
 μ-loop width cells w left right top bottom y₀ y = bottom - y
@@ -107,7 +107,7 @@ returns-2 : tie.Need-returns-2 Inv-loop μ-loop
 returns-2 c =
     let l = c .before in
     let s = l .before .before .before .before .before .before in
-    sym (ap head (rows-done (s .args .width) (now (s .args .cells)) (s .args .b) (l .loop .y) (l .loop .inv .1) (s .pre .across) (omega arith)))
+    sym (ap head (rows-done (s .args .width) (now (s .args .cells)) (s .args .b) (l .loop .y) (l .loop .inv .1) (omega arith)))
 
 pub first-bad-cell-spec : {M : Type 1} → statement M
 first-bad-cell-spec =

@@ -1,12 +1,12 @@
 -- `footprints::first_unfit` meets its contract. The invariant: the cells passed are fit. Assumes nothing.
-use mathlib.Core.Path.{sym, ap, _∙_}
-use mathlib.Core.Bool.{not}
+use mathlib.Core.Path.{_≡_, sym, ap, _∙_}
+use mathlib.Core.Bool.{false, not}
 use Prim.Native.Nat.{_≤_, _-_}
 use native.Mathlib.Omega.{arith}
+use borrow.Author.Count.{below-more}
 use borrow.Author.Needs.{needs}
 use denote.Ref.{now}
-use Rattle.footprints.specs.Cells.{Fit}
-use Rattle.footprints.proofs.Cells.{none-yet, one-more}
+use Rattle.footprints.specs.Cells.{unfit, Fit}
 use Rattle.footprints.proofs.first_unfit.Statement.{statement}
 use Rattle.footprints.proofs.first_unfit.Tie as tie
 
@@ -17,7 +17,7 @@ abbrev μ-loop : tie.MeasureT-loop
 μ-loop cells from to i₀ i = to - i
 
 loop-holds : tie.Need-loop-holds Inv-loop μ-loop
-loop-holds c = (omega arith, none-yet (now (c .before .args .cells)) (c .before .args .from))
+loop-holds c = (omega arith, λ j h k. absurd (omega arith))
 
 shared-slice-read-fit : tie.Need-shared-slice-read-fit Inv-loop μ-loop
 shared-slice-read-fit c = omega arith
@@ -39,7 +39,8 @@ loop-less c = omega arith
 loop-again : tie.Need-loop-again Inv-loop μ-loop
 loop-again c =
     let l = c .before .before .before .before in
-    (omega arith, one-more (now (l .before .before .args .cells)) (l .before .before .args .from) (l .loop .i) (l .loop .inv .1) (ap not (sym (c .before .fit .ensures)) ∙ c .if1 .left))
+    let a = l .before .before .args in
+    (omega arith, λ j h k. below-more (λ j. a .from ≤ j → unfit (now (a .cells)) j ≡ false) (l .loop .i) (λ j k h. l .loop .inv .1 j h k) (λ h. ap not (sym (c .before .fit .ensures)) ∙ c .if1 .left) j k h)
 
 returns-2 : tie.Need-returns-2 Inv-loop μ-loop
 returns-2 c j h k = c .before .loop .inv .1 j h (omega arith)
