@@ -1,81 +1,52 @@
 -- The laws of a rectangle's indicator, whose mixed differences are its four corners, and of the four stores of a stamp. Assumes nothing.
-use mathlib.Core.Path.{_≡_, refl, sym, subst, _∙_}
+use mathlib.Core.Path.{_≡_, refl, ap, subst, _∙_}
 use mathlib.Core.Logic.{_⊎_, inl, inr}
-use mathlib.Core.Bool.{Bool, true, false, _&&_}
+use mathlib.Core.Bool.{_&&_}
 use mathlib.Core.List.{List}
 use Prim.Native.Nat.{ℕ, zero, suc, _+_, _*_, _%_, _^_, _≤_, _<_}
 use native.Mathlib.Nat.{one-mul}
 use native.Mathlib.Omega.{arith}
 use native.Mathlib.Decide.{decLt, ℕ-discrete}
-use lib.Dec.{leb, ltb}
+use lib.Dec.{leb, ltb, leb→le, ltb→lt, leb·suc-zero, leb·suc-suc}
 use lib.ListN.{length, getD, length-set, drop}
 use lib.Seq.{getD-set-same, getD-set-other, drop-set-lt}
-use borrow.Author.Tests.{lt-ltb, le-ltb, le-leb, lt-leb}
+use borrow.Author.Tests.{lt-ltb, le-leb}
 use Rattle.grid.specs.Grid.{within, plus-box, prev, west, north, corner, bump, Differences}
 use Rattle.numbers.proofs.Modulo.{_≈_, by-sum, both-sums, equal, wrapped}
-use Rattle.numbers.proofs.Places.{one-if, same, same-yes, same-no, same-place, row-below}
+use Rattle.numbers.proofs.Tests.{is-false, left-of, right-of}
+use Rattle.numbers.proofs.Places.{same, same-yes, same-no, same-place, row-below}
 
-pub within-in : (l r x : ℕ) → l ≤ x → x < r → within l r x ≡ 1
+within-in : (l r x : ℕ) → l ≤ x → x < r → within l r x ≡ 1
 unfolding within
 within-in l r x h k = rw (le-leb l x h, lt-ltb x r k)
 
-pub within-low : (l r x : ℕ) → x < l → within l r x ≡ 0
+within-out : (l r x : ℕ) → (l ≤ x → x < r → ⊥) → within l r x ≡ 0
 unfolding within
-within-low l r x h = rw (lt-leb l x h)
+within-out l r x out = rw (is-false (leb l x && ltb x r) (λ t. out (leb→le l x (left-of (leb l x) (ltb x r) t)) (ltb→lt x r (right-of (leb l x) (ltb x r) t))))
 
-pub within-high : (l r x : ℕ) → r ≤ x → within l r x ≡ 0
+-- one place back is one place on for the interval
+prev-within : (l r x : ℕ) → prev (within l r) x ≡ within (suc l) (suc r) x
 unfolding within
-within-high l r x h = go (leb l x)
-  where
-    go : (t : Bool) → one-if (t && ltb x r) ≡ 0
-    go true = rw (le-ltb x r h)
-    go false = refl
-
-prev-in : (l r x : ℕ) → l < x → x ≤ r → prev (within l r) x ≡ 1
-prev-in l r zero h k = omega arith
-prev-in l r (suc x) h k = within-in l r x (omega arith) (omega arith)
-
-prev-low : (l r x : ℕ) → x ≤ l → prev (within l r) x ≡ 0
-prev-low l r zero h = refl
-prev-low l r (suc x) h = within-low l r x (omega arith)
-
-prev-high : (l r x : ℕ) → r < x → prev (within l r) x ≡ 0
-prev-high l r zero h = refl
-prev-high l r (suc x) h = within-high l r x (omega arith)
-
--- What an interval's indicator is one place back and here, and whether here is its start and its end.
-data Edge : ℕ → ℕ → ℕ → ℕ → Type 0 where
-  outside : Edge 0 0 0 0
-  enter : Edge 0 1 1 0
-  stay : Edge 1 1 0 0
-  leave : Edge 1 0 0 1
-
-edge : (l r x : ℕ) → l < r → Edge (prev (within l r) x) (within l r x) (same x l) (same x r)
-edge l r x h = pick (decLt x l) (ℕ-discrete x l) (decLt x r) (ℕ-discrete x r)
-  where
-    pick : Dec (x < l) → Dec (x ≡ l) → Dec (x < r) → Dec (x ≡ r) → Edge (prev (within l r) x) (within l r x) (same x l) (same x r)
-    pick (yes p) b c d = rw (prev-low l r x (omega arith), within-low l r x p, same-no x l (omega arith), same-no x r (omega arith)) outside
-    pick (no p) (yes q) c d = rw (prev-low l r x (omega arith), within-in l r x (omega arith) (omega arith), same-yes x l q, same-no x r (omega arith)) enter
-    pick (no p) (no q) (yes u) d = rw (prev-in l r x (omega arith) (omega arith), within-in l r x (omega arith) u, same-no x l q, same-no x r (omega arith)) stay
-    pick (no p) (no q) (no u) (yes v) = rw (prev-in l r x (omega arith) (omega arith), within-high l r x (omega arith), same-no x l q, same-yes x r v) leave
-    pick (no p) (no q) (no u) (no v) = rw (prev-high l r x (omega arith), within-high l r x (omega arith), same-no x l q, same-no x r v) outside
+prev-within l r zero = rw (leb·suc-zero l)
+prev-within l r (suc x) = rw (leb·suc-suc l x, leb·suc-suc (suc x) r)
 
 -- along one axis the indicator rises at the start and falls at the end
-rise : {a b e f : ℕ} → Edge a b e f → b + f ≡ a + e
-rise outside = refl
-rise enter = refl
-rise stay = refl
-rise leave = refl
+rise : (l r x : ℕ) → l < r → within l r x + same x r ≡ prev (within l r) x + same x l
+rise l r x h = rw (prev-within l r x) (pick (decLt x l) (ℕ-discrete x l) (decLt x r) (ℕ-discrete x r))
+  where
+    pick : Dec (x < l) → Dec (x ≡ l) → Dec (x < r) → Dec (x ≡ r) → within l r x + same x r ≡ within (suc l) (suc r) x + same x l
+    pick (yes p) b c d = rw (within-out l r x (λ i j. omega arith), within-out (suc l) (suc r) x (λ i j. omega arith), same-no x l (omega arith), same-no x r (omega arith))
+    pick (no p) (yes q) c d = rw (within-in l r x (omega arith) (omega arith), within-out (suc l) (suc r) x (λ i j. omega arith), same-yes x l q, same-no x r (omega arith))
+    pick (no p) (no q) (yes u) d = rw (within-in l r x (omega arith) u, within-in (suc l) (suc r) x (omega arith) (omega arith), same-no x l q, same-no x r (omega arith))
+    pick (no p) (no q) (no u) (yes v) = rw (within-out l r x (λ i j. omega arith), within-in (suc l) (suc r) x (omega arith) (omega arith), same-no x l q, same-yes x r v)
+    pick (no p) (no q) (no u) (no v) = rw (within-out l r x (λ i j. omega arith), within-out (suc l) (suc r) x (λ i j. omega arith), same-no x l q, same-no x r v)
 
 -- so the mixed difference of a product of two indicators is the product of the differences: the four corners
-product : {a b e f : ℕ} (a' b' e' f' : ℕ) → Edge a b e f → b' + f' ≡ a' + e' → b * b' + a * a' + (f * e' + e * f') ≡ a * b' + b * a' + (e * e' + f * f')
-product a' b' e' f' outside h = omega arith
-product a' b' e' f' enter h = omega arith
-product a' b' e' f' stay h = omega arith
-product a' b' e' f' leave h = omega arith
+product : (a b e f a' b' e' f' : ℕ) → b + f ≡ a + e → b' + f' ≡ a' + e' → b * b' + a * a' + (f * e' + e * f') ≡ a * b' + b * a' + (e * e' + f * f')
+product a b e f a' b' e' f' h k = omega (arith, ap (λ (n : ℕ). n * a') h, ap (λ (n : ℕ). n * b') h, ap (λ (n : ℕ). n * e) k, ap (λ (n : ℕ). n * f) k)
 
 -- what stands at k after v was added at i
-pub bump-at : (g : List ℕ) (i v k : ℕ) → i < length g → getD (bump g i v) k 0 ≈ getD g k 0 + same k i * v
+bump-at : (g : List ℕ) (i v k : ℕ) → i < length g → getD (bump g i v) k 0 ≈ getD g k 0 + same k i * v
 bump-at g i v k h = pick (ℕ-discrete k i)
   where
     pick : Dec (k ≡ i) → getD (bump g i v) k 0 ≈ getD g k 0 + same k i * v
@@ -93,8 +64,7 @@ module _ (l t r b : ℕ) (C : ℕ → ℕ → ℕ) where
 
   corner-plus : (x y : ℕ) → corner (plus-box l t r b C) x y ≡ prev (within l r) x * prev (within t b) y + corner C x y
   corner-plus zero y = omega arith
-  corner-plus (suc x) zero = omega arith
-  corner-plus (suc x) (suc y) = refl
+  corner-plus (suc x) y = north-plus x y
 
 -- the four stores of a stamp: 4294967295 is -1 modulo 2 ^ 32
 abbrev pub stamps : ℕ → ℕ → ℕ → ℕ → ℕ → List ℕ → List ℕ
@@ -123,8 +93,8 @@ module _ (s l t r b : ℕ) (g : List ℕ) (lr : l < r) (tb : t < b) (rs : r < s)
     mixed = λ x y hx hy.
         rw (west-plus l t r b C x y, north-plus l t r b C x y, corner-plus l t r b C x y)
         (by-sum 0 0 (both-sums (stamps-at x y hx) (D .mixed x y hx hy))
-        (omega (arith, product (prev (within t b) y) (within t b y) (same y t) (same y b) (edge l r x lr) (rise (edge t b y tb)))));
-    closed = λ x y hx hy. rw (within-high l r x (omega arith), D .closed x y hx hy) (omega arith);
+        (omega (arith, product (prev (within l r) x) (within l r x) (same x l) (same x r) (prev (within t b) y) (within t b y) (same y t) (same y b) (rise l r x lr) (rise t b y tb))));
+    closed = λ x y hx hy. rw (within-out l r x (λ i j. omega arith), D .closed x y hx hy) (omega arith);
   }
 
   pub stamps-rest : (n : ℕ) → (b + 1) * s ≤ n → drop n (stamps s l t r b g) ≡ drop n g
@@ -134,21 +104,10 @@ module _ (s l t r b : ℕ) (g : List ℕ) (lr : l < r) (tb : t < b) (rs : r < s)
       drop-set-lt n _ (b * s + r) _ (omega arith) ∙ drop-set-lt n _ (b * s + l) _ (omega arith)
       ∙ drop-set-lt n _ (t * s + r) _ (omega arith) ∙ drop-set-lt n g (t * s + l) _ (omega arith)
 
--- counts that agree everywhere have the same differences
-pub agree : (s m : ℕ) (C C' : ℕ → ℕ → ℕ) (g : List ℕ) → ((x y : ℕ) → C x y ≡ C' x y) → Differences s m C g → Differences s m C' g
-agree s m C C' g e D = subst (λ (f : ℕ → ℕ → ℕ). Differences s m f g) (λ k x y. e x y k) D
-
 -- a rectangle that is empty covers nothing
 pub empty-box : (s m l t r b : ℕ) (C : ℕ → ℕ → ℕ) (g : List ℕ) → (r ≤ l) ⊎ (b ≤ t) → Differences s m C g → Differences s m (plus-box l t r b C) g
-empty-box s m l t r b C g h D = agree s m C (plus-box l t r b C) g (λ x y. sym (nothing x y h)) D
+empty-box s m l t r b C g h D = subst (λ (f : ℕ → ℕ → ℕ). Differences s m f g) (λ k x y. nothing x y h k) D
   where
-    none : (i j x : ℕ) → j ≤ i → within i j x ≡ 0
-    none i j x q = pick (decLt x j)
-      where
-        pick : Dec (x < j) → within i j x ≡ 0
-        pick (yes p) = within-low i j x (omega arith)
-        pick (no p) = within-high i j x (omega arith)
-
-    nothing : (x y : ℕ) → (r ≤ l) ⊎ (b ≤ t) → plus-box l t r b C x y ≡ C x y
-    nothing x y (inl q) = rw (none l r x q) (omega arith)
-    nothing x y (inr q) = rw (none t b y q) (omega arith)
+    nothing : (x y : ℕ) → (r ≤ l) ⊎ (b ≤ t) → C x y ≡ plus-box l t r b C x y
+    nothing x y (inl q) = rw (within-out l r x (λ i j. omega arith)) (omega arith)
+    nothing x y (inr q) = rw (within-out t b y (λ i j. omega arith)) (omega arith)
