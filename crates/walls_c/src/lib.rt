@@ -29,7 +29,7 @@ pub extern "C" fn walls_c_check(
 ) -> u64
     ensures { λ r. ⌜ CheckSaid (ground width height (now (cells .entry)) (now (obstacles .entry))) (queryOf (now (query .entry)) buildings) (record { issues = now (issues .entry); base = now (base .entry); plan = now (planned .entry); marks = now (marks .entry); parents = now (parents .entry); queue = now (queue .entry); route = now (route .entry) }) (record { issues = now (issues .exit); base = now (base .exit); plan = now (planned .exit); marks = now (marks .exit); parents = now (parents .exit); queue = now (queue .exit); route = now (route .exit) }) (now (answer .entry)) (now (answer .exit)) r ⌝ }
 {
-    let q = words::query_of(query, buildings);
+    let q = query_words::query_of(query, buildings);
     let reply = walls::check_wall(
         width,
         height,
@@ -78,7 +78,7 @@ pub extern "C" fn walls_c_test_route(
 ) -> u64
     ensures { λ r. ⌜ TestSaid (ground width height (now (cells .entry)) (now (obstacles .entry))) (queryOf (now (query .entry)) buildings) (now (list .entry)) (record { base = now (base .entry); plan = now (planned .entry); marks = now (marks .entry) }) (record { base = now (base .exit); plan = now (planned .exit); marks = now (marks .exit) }) (now (answer .entry)) (now (answer .exit)) r ⌝ }
 {
-    let q = words::query_of(query, buildings);
+    let q = query_words::query_of(query, buildings);
     let reply = walls::test_route(
         width,
         height,

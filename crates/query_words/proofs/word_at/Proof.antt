@@ -1,9 +1,9 @@
--- `words::word_at` meets its contract. Assumes nothing.
+-- `query_words::word_at` meets its contract. Assumes nothing.
 use denote.Ref.{now}
 use lib.ListN.{List·getD-eq-default}
 use borrow.Author.Needs.{needs}
-use Rattle.words.proofs.word_at.Statement.{statement}
-use Rattle.words.proofs.word_at.Tie as tie
+use Rattle.query_words.proofs.word_at.Statement.{statement}
+use Rattle.query_words.proofs.word_at.Tie as tie
 
 mul-result : tie.Need-mul-result
 mul-result c = search needs

@@ -1,7 +1,7 @@
--- `words::point_at` meets its contract. Assumes nothing.
+-- `query_words::point_at` meets its contract. Assumes nothing.
 use borrow.Author.Needs.{needs}
-use Rattle.words.proofs.point_at.Statement.{statement}
-use Rattle.words.proofs.point_at.Tie as tie
+use Rattle.query_words.proofs.point_at.Statement.{statement}
+use Rattle.query_words.proofs.point_at.Tie as tie
 
 word-at-requires : tie.Need-word-at-requires
 word-at-requires c κs = search needs

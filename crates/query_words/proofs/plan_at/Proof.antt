@@ -1,4 +1,4 @@
--- `words::plan_at` meets its contract. After i turns the first i places are read. Assumes nothing.
+-- `query_words::plan_at` meets its contract. After i turns the first i places are read. Assumes nothing.
 use native.Mathlib.Omega.{arith}
 use denote.Ref.{now}
 use mathlib.Core.Path.{_≡_, refl, _∙_}
@@ -9,8 +9,8 @@ use Rattle.model.specs.declared.WallBuilding.{WallBuilding}
 use Rattle.model.specs.Lists.{table}
 use Rattle.model.proofs.Lists.{table-store}
 use Rattle.model.specs.Words.{buildingAt}
-use Rattle.words.proofs.plan_at.Statement.{statement}
-use Rattle.words.proofs.plan_at.Tie as tie
+use Rattle.query_words.proofs.plan_at.Statement.{statement}
+use Rattle.query_words.proofs.plan_at.Tie as tie
 
 -- building j of the words
 abbrev nth : List ℕ → ℕ → WallBuilding

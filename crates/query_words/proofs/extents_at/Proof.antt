@@ -1,4 +1,4 @@
--- `words::extents_at` meets its contract. Assumes nothing.
+-- `query_words::extents_at` meets its contract. Assumes nothing.
 use native.Mathlib.Omega.{arith}
 use denote.Ref.{now}
 use mathlib.Core.Path.{_≡_, ap, _∙_}
@@ -6,8 +6,8 @@ use Prim.Native.Nat.{_+_}
 use Rattle.model.specs.declared.PixelPosition.{PixelPosition}
 use Rattle.model.specs.Words.{wordAt}
 use borrow.Author.Needs.{needs}
-use Rattle.words.proofs.extents_at.Statement.{statement}
-use Rattle.words.proofs.extents_at.Tie as tie
+use Rattle.query_words.proofs.extents_at.Statement.{statement}
+use Rattle.query_words.proofs.extents_at.Tie as tie
 
 point-at-requires : tie.Need-point-at-requires
 point-at-requires c κs = search needs

@@ -1,7 +1,7 @@
--- `words::query_of` meets its contract. Assumes nothing.
+-- `query_words::query_of` meets its contract. Assumes nothing.
 use borrow.Author.Needs.{needs}
-use Rattle.words.proofs.query_of.Statement.{statement}
-use Rattle.words.proofs.query_of.Tie as tie
+use Rattle.query_words.proofs.query_of.Statement.{statement}
+use Rattle.query_words.proofs.query_of.Tie as tie
 
 rect-at-requires : tie.Need-rect-at-requires
 rect-at-requires c κs = search needs

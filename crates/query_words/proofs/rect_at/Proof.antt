@@ -1,4 +1,4 @@
--- `words::rect_at` meets its contract. Assumes nothing.
+-- `query_words::rect_at` meets its contract. Assumes nothing.
 use mathlib.Core.Path.{ap, _∙_}
 use mir.Facts.{toZ-ofZ}
 use mir.Syntax.{w32}
@@ -6,8 +6,8 @@ use mir.Val.{SFits}
 use Rattle.model.specs.declared.CollisionBounds.{CollisionBounds}
 use Rattle.model.specs.Packed.{signed}
 use borrow.Author.Needs.{needs}
-use Rattle.words.proofs.rect_at.Statement.{statement}
-use Rattle.words.proofs.rect_at.Tie as tie
+use Rattle.query_words.proofs.rect_at.Statement.{statement}
+use Rattle.query_words.proofs.rect_at.Tie as tie
 
 extents-at-requires : tie.Need-extents-at-requires
 extents-at-requires c κs = search needs
