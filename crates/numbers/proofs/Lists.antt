@@ -1,7 +1,7 @@
 -- A list that a loop fills from the front: `front ++ drop n d`, where `front` has n elements and d is the list as it came.
 -- A store at n makes it n + 1, whatever the front is: copies of one value, the values of a function, or a list mapped. Assumes nothing.
-use mathlib.Core.Path.{_≡_, refl, sym, ap, _∙_}
-use mathlib.Core.List.{List, [], _∷_, _++_, map, append-assoc}
+use mathlib.Core.Path.{_≡_, sym, ap, _∙_}
+use mathlib.Core.List.{List, [], _∷_, _++_, append-assoc}
 use Prim.Native.Nat.{ℕ, zero, suc, _+_, _-_, _≤_, _<_}
 use native.Mathlib.Numerals.{add-one}
 use native.Mathlib.Omega.{arith}
@@ -23,12 +23,6 @@ module _ {A : Type 0} where
   drop-replicate zero n v = let e : n ≡ n - 0 = omega arith in ap (λ (m : ℕ). replicate m v) e
   drop-replicate (suc i) zero v = let e : 0 ≡ 0 - suc i = omega arith in ap (λ (m : ℕ). replicate m v) e
   drop-replicate (suc i) (suc n) v = let e : n - i ≡ suc n - suc i = omega arith in drop-replicate i n v ∙ ap (λ (m : ℕ). replicate m v) e
-
--- ---- lists mapped
-module _ {A B : Type 0} (f : A → B) where
-  pub map-append : (a b : List A) → map f (a ++ b) ≡ map f a ++ map f b
-  map-append [] b = refl
-  map-append (x ∷ a) b = ap (λ (l : List B). f x ∷ l) (map-append a b)
 
 -- two lists of one length that agree from n on have the same rest
 pub same-rest : {A : Type 0} (z : A) (n : ℕ) (a b : List A) → length a ≡ length b → ((k : ℕ) → n ≤ k → getD a k z ≡ getD b k z) → drop n a ≡ drop n b

@@ -1,12 +1,11 @@
 -- Following the parents back: what the two loops over them keep. Assumes nothing.
-use mathlib.Core.Path.{_≡_, refl, ap, sym, subst, _∙_}
-use mathlib.Core.List.{List, [], _∷_, _++_, map, append-assoc, append-nil}
-use Prim.Native.Nat.{ℕ, suc, _+_, _-_, _<_, _≤_}
-use native.Mathlib.Decide.{decLt}
+use mathlib.Core.Path.{_≡_, refl, ap, _∙_}
+use mathlib.Core.List.{List, [], _∷_, _++_, map, map-append, append-assoc, append-nil}
+use Prim.Native.Nat.{ℕ, _+_, _-_, _<_, _≤_}
 use native.Mathlib.Omega.{arith}
-use lib.ListN.{length, getD, set, take, drop, length-append, length-map, List·getD-append}
-use lib.Seq.{getD-append-add, take-at, drop-at}
-use Rattle.numbers.proofs.Lists.{store-next, front-length, map-append}
+use lib.ListN.{length, getD, set, take, drop, length-append, length-map}
+use lib.Seq.{take-at, drop-at}
+use Rattle.numbers.proofs.Lists.{store-next, front-length}
 use Rattle.model.specs.Steps.{pointWord}
 use Rattle.search.specs.Places.{spot}
 use Rattle.route.proofs.Zeros.{some-in}
@@ -51,62 +50,57 @@ turned-length (x ∷ l) = length-append (turned l) (x ∷ []) ∙ omega (arith, 
 
 turned-map : (f : ℕ → ℕ) (l : List ℕ) → turned (map f l) ≡ map f (turned l)
 turned-map f [] = refl
-turned-map f (x ∷ l) = ap (λ (r : List ℕ). r ++ (f x ∷ [])) (turned-map f l) ∙ sym (map-append f (turned l) (x ∷ []))
+turned-map f (x ∷ l) = ap (λ (r : List ℕ). r ++ (f x ∷ [])) (turned-map f l) ∙ rw map-append
 
-pub turned-at : (l : List ℕ) (k : ℕ) → k < length l → getD (turned l) k 0 ≡ getD l (length l - 1 - k) 0
-turned-at (x ∷ l) k h = split (turned-at l k) (decLt k (length l))
-  where
-    split : (k < length l → getD (turned l) k 0 ≡ getD l (length l - 1 - k) 0) → Dec (k < length l) → getD (turned l ++ (x ∷ [])) k 0 ≡ getD (x ∷ l) (suc (length l) - 1 - k) 0
-    split before (yes m) =
-        let e : suc (length l) - 1 - k ≡ suc (length l - 1 - k) = omega (arith, m) in
-        List·getD-append (turned l) (x ∷ []) 0 k (omega (arith, m, turned-length l)) ∙ before m ∙ ap (λ (j : ℕ). getD (x ∷ l) j 0) (sym e)
-    split before (no m) =
-        let e : k ≡ length (turned l) + 0 = omega (arith, m, h, turned-length l) in
-        let z : 0 ≡ suc (length l) - 1 - k = omega (arith, m, h) in
-        ap (λ (j : ℕ). getD (turned l ++ (x ∷ [])) j 0) e ∙ getD-append-add (turned l) (x ∷ []) 0 0 ∙ ap (λ (j : ℕ). getD (x ∷ l) j 0) z
+-- ---- words written from the front
+module _ (left top w : ℕ) where
+  -- the words of places
+  abbrev words : List ℕ → List ℕ
+  words ps = map (λ q. pointWord (spot left top w q)) ps
 
--- ---- the words of the places after p are written, those of e first
+  -- n of them, and then what stood there before
+  module _ (laid before : List ℕ) (n : ℕ) (count : length laid ≡ n) where
+    words-length : length (words laid) ≡ n
+    words-length = simp length-map count
+
+    words-next : (v : ℕ) → n < length before → set (words laid ++ drop n before) n (pointWord (spot left top w v)) ≡ words (laid ++ (v ∷ [])) ++ drop (n + 1) before
+    words-next v h = rw map-append (store-next (words laid) before n (pointWord (spot left top w v)) words-length h)
+
+    words-turned : turned (take n (words laid ++ drop n before)) ++ drop n (words laid ++ drop n before) ≡ words (turned laid) ++ drop n before
+    words-turned = rw (take-at (words laid) (drop n before) n words-length, drop-at (words laid) (drop n before) n words-length, turned-map (λ q. pointWord (spot left top w q)) laid)
+
+-- the words of the places after p are written, those of e first
 pub record Laying (parents : List ℕ) (s e left top w : ℕ) (before out : List ℕ) (n p : ℕ) : Type 0 where
-  pub places : List ℕ
-  pub trail : Trail parents s e places
-  pub short : length places ≤ length parents
   pub ahead : List ℕ
   pub ahead-trail : Trail parents s p ahead
   pub laid : List ℕ
   pub count : length laid ≡ n
-  pub whole : places ≡ ahead ++ turned laid
-  pub words : out ≡ map (λ q. pointWord (spot left top w q)) laid ++ drop n before
+  pub trail : Trail parents s e (ahead ++ turned laid)
+  pub short : length ahead + n ≤ length parents
+  pub written : out ≡ words left top w laid ++ drop n before
   pub room : length parents ≤ length before
 
 pub laying-begun : {parents : List ℕ} {s e left top w : ℕ} (out : List ℕ) {places : List ℕ} → Trail parents s e places → length places ≤ length parents → length parents ≤ length out → Laying parents s e left top w out out 0 e
-laying-begun out {places} t short room = record { places = places; trail = t; short = short; ahead = places; ahead-trail = t; laid = []; count = refl; whole = sym (append-nil places); words = refl; room = room }
+laying-begun out {places} t short room = record { ahead = places; ahead-trail = t; laid = []; count = refl; trail = rw append-nil t; short = omega arith; written = refl; room = room }
 
 module _ {parents : List ℕ} {s e left top w n p : ℕ} {before out : List ℕ} (L : Laying parents s e left top w before out n p) where
-  -- as many places were passed as words stand there, and there is room for one more
-  lengths : length (L .ahead) + n ≡ length (L .places)
-  lengths = omega (arith, L .count, turned-length (L .laid), length-append (L .ahead) (turned (L .laid)), ap length (L .whole))
-
   pub laying-room : n < length parents
-  laying-room = omega (arith, lengths, L .short, trail-some (L .ahead-trail))
+  laying-room = omega (arith, L .short, trail-some (L .ahead-trail))
 
   pub laying-long : length out ≡ length before
-  laying-long = ap length (L .words) ∙ front-length (map (λ q. pointWord (spot left top w q)) (L .laid)) before n (length-map (L .laid) (λ q. pointWord (spot left top w q)) ∙ L .count) (omega (arith, laying-room, L .room))
+  laying-long = ap length (L .written) ∙ front-length (words left top w (L .laid)) before n (words-length left top w (L .laid) before n (L .count)) (omega (arith, laying-room, L .room))
 
   -- one word more
-  stored : (v : ℕ) → set out n (pointWord (spot left top w v)) ≡ map (λ q. pointWord (spot left top w q)) (L .laid ++ (v ∷ [])) ++ drop (n + 1) before
-  stored v =
-      ap (λ (l : List ℕ). set l n (pointWord (spot left top w v))) (L .words)
-      ∙ store-next (map (λ q. pointWord (spot left top w q)) (L .laid)) before n (pointWord (spot left top w v)) (length-map (L .laid) (λ q. pointWord (spot left top w q)) ∙ L .count) (omega (arith, laying-room, L .room))
-      ∙ ap (λ (l : List ℕ). l ++ drop (n + 1) before) (sym (map-append (λ q. pointWord (spot left top w q)) (L .laid) (v ∷ [])))
+  stored : (v : ℕ) → set out n (pointWord (spot left top w v)) ≡ words left top w (L .laid ++ (v ∷ [])) ++ drop (n + 1) before
+  stored v = ap (λ (l : List ℕ). set l n (pointWord (spot left top w v))) (L .written) ∙ words-next left top w (L .laid) before n (L .count) v (omega (arith, laying-room, L .room))
 
   one-more : (v : ℕ) → length (L .laid ++ (v ∷ [])) ≡ n + 1
-  one-more v = omega (arith, length-append (L .laid) (v ∷ []), L .count)
+  one-more v = simp length-append (omega (arith, L .count))
 
   pub laid-all : p ≡ s → Laid parents s e left top w (n + 1) before (set out n (pointWord (spot left top w s)))
   laid-all h =
-      let one = trail-one (rw h at (L .ahead-trail)) begin in
-      let parts : L .places ≡ turned (L .laid ++ (s ∷ [])) = L .whole ∙ ap (λ (l : List ℕ). l ++ turned (L .laid)) one ∙ sym (turned-next (L .laid) s) in
-      record { laid = L .laid ++ (s ∷ []); trail = subst (Trail parents s e) parts (L .trail); count = one-more s; words = stored s }
+      let one : L .ahead ≡ s ∷ [] = trail-one (rw h at (L .ahead-trail)) begin in
+      record { laid = L .laid ++ (s ∷ []); trail = rw (turned-next (L .laid) s) (rw one at (L .trail)); count = one-more s; words = stored s }
 
   module _ (other : p ≡ s → ⊥) where
     pub laying-more : (p < length parents) × (1 ≤ getD parents p 0)
@@ -117,35 +111,25 @@ module _ {parents : List ℕ} {s e left top w n p : ℕ} {before out : List ℕ}
         let b = trail-back (L .ahead-trail) other in
         let q : b .p ≡ getD parents p 0 - 1 = omega (arith, b .link) in
         record {
-          places = L .places;
-          trail = L .trail;
-          short = L .short;
           ahead = b .ps;
-          ahead-trail = subst (λ (r : ℕ). Trail parents s r (b .ps)) q (b .trail);
+          ahead-trail = rw q at (b .trail);
           laid = L .laid ++ (p ∷ []);
           count = one-more p;
-          whole = L .whole ∙ ap (λ (l : List ℕ). l ++ turned (L .laid)) (b .last) ∙ append-assoc (b .ps) (p ∷ []) (turned (L .laid)) ∙ ap (λ (l : List ℕ). b .ps ++ l) (sym (turned-next (L .laid) p));
-          words = stored p;
+          trail = rw (turned-next (L .laid) p) (rw (b .last, append-assoc (b .ps) (p ∷ []) (turned (L .laid))) at (L .trail));
+          short = omega (arith, L .short, simp length-append at (ap length (b .last)));
+          written = stored p;
           room = L .room;
         }
 
 -- ---- what is laid and then turned round is the route
-pub turned-written : {parents : List ℕ} {s e left top w n : ℕ} {before mid after : List ℕ} → Laid parents s e left top w n before mid → after ≡ turned (take n mid) ++ drop n mid → Written parents s e left top w n before after
-turned-written {left = left} {top = top} {w = w} {n = n} {before = before} {mid = mid} l e =
-    let f : ℕ → ℕ = λ q. pointWord (spot left top w q) in
-    let front : length (map f (l .laid)) ≡ n = length-map (l .laid) f ∙ l .count in
-    record {
-      places = turned (l .laid);
-      trail = l .trail;
-      count = turned-length (l .laid) ∙ l .count;
-      words = e
-          ∙ ap (λ (m : List ℕ). turned (take n m) ++ drop n m) (l .words)
-          ∙ ap (λ (m : List ℕ). turned m ++ drop n (map f (l .laid) ++ drop n before)) (take-at (map f (l .laid)) (drop n before) n front)
-          ∙ ap (λ (m : List ℕ). turned (map f (l .laid)) ++ m) (drop-at (map f (l .laid)) (drop n before) n front)
-          ∙ ap (λ (m : List ℕ). m ++ drop n before) (turned-map f (l .laid));
-    }
+module _ {parents : List ℕ} {s e left top w n : ℕ} {before mid : List ℕ} (L : Laid parents s e left top w n before mid) where
+  pub turned-written : {after : List ℕ} → after ≡ turned (take n mid) ++ drop n mid → Written parents s e left top w n before after
+  turned-written h = record {
+    places = turned (L .laid);
+    trail = L .trail;
+    count = turned-length (L .laid) ∙ L .count;
+    words = h ∙ ap (λ (m : List ℕ). turned (take n m) ++ drop n m) (L .words) ∙ words-turned left top w (L .laid) before n (L .count);
+  }
 
-pub laid-room : {parents : List ℕ} {s e left top w n : ℕ} {before after : List ℕ} → Laid parents s e left top w n before after → n ≤ length after
-laid-room {left = left} {top = top} {w = w} {n = n} {before = before} l =
-    let f : ℕ → ℕ = λ q. pointWord (spot left top w q) in
-    omega (arith, l .count, ap length (l .words), length-append (map f (l .laid)) (drop n before), length-map (l .laid) f)
+  pub laid-room : n ≤ length mid
+  laid-room = omega (arith, words-length left top w (L .laid) before n (L .count), simp length-append at (ap length (L .words)))

@@ -1,13 +1,25 @@
 -- Words turned round in place: what the loop keeps, place by place. Assumes nothing.
 use mathlib.Core.Path.{_≡_, sym, ap, _∙_}
-use mathlib.Core.List.{List, _++_}
-use Prim.Native.Nat.{ℕ, _+_, _-_, _/_, _<_, _≤_}
+use mathlib.Core.List.{List, [], _∷_, _++_}
+use Prim.Native.Nat.{ℕ, suc, _+_, _-_, _/_, _<_, _≤_}
 use native.Mathlib.Decide.{decLt, decLe, ℕ-discrete}
 use native.Mathlib.Omega.{arith}
 use lib.ListN.{length, getD, set, take, drop, length-append, length-drop, length-set, List·getD-append}
-use lib.Seq.{getD-set-same, getD-set-other, getD-append-add, getD-take, getD-drop, ext-getD, length-take-le}
+use lib.Seq.{getD-set-same, getD-set-other, getD-at, getD-append-add, getD-take, getD-drop, ext-getD, length-take-le}
 use Rattle.route.specs.Trails.{turned}
-use Rattle.route.proofs.Tracing.{turned-length, turned-at}
+use Rattle.route.proofs.Tracing.{turned-length}
+
+-- word k of a list that is turned round
+turned-at : (l : List ℕ) (k : ℕ) → k < length l → getD (turned l) k 0 ≡ getD l (length l - 1 - k) 0
+turned-at (x ∷ l) k h = split (turned-at l k) (decLt k (length l))
+  where
+    split : (k < length l → getD (turned l) k 0 ≡ getD l (length l - 1 - k) 0) → Dec (k < length l) → getD (turned l ++ (x ∷ [])) k 0 ≡ getD (x ∷ l) (suc (length l) - 1 - k) 0
+    split later (yes m) =
+        let e : suc (length l) - 1 - k ≡ suc (length l - 1 - k) = omega arith in
+        List·getD-append (turned l) (x ∷ []) 0 k (omega (arith, turned-length l)) ∙ later m ∙ ap (λ (j : ℕ). getD (x ∷ l) j 0) (sym e)
+    split later (no m) =
+        let z : 0 ≡ suc (length l) - 1 - k = omega arith in
+        getD-at (turned l) x [] 0 k (omega (arith, turned-length l)) ∙ ap (λ (j : ℕ). getD (x ∷ l) j 0) z
 
 -- of the first n words the outer i on each side stand turned round, and the others as they were
 pub record Turning (n i : ℕ) (was out : List ℕ) : Type 0 where
