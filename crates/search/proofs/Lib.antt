@@ -7,4 +7,5 @@ pub mod Frontier
 pub mod Noted
 pub mod Entering
 pub mod Moves
+pub mod Stepping
 pub mod Trying

@@ -11,7 +11,7 @@ use Rattle.model.proofs.Chains.{step-one}
 use Rattle.search.specs.Places.{center, ahead}
 use Rattle.search.specs.Search.{noted, Expanding, Works, Bars, Growing, Tried}
 use Rattle.search.proofs.Noted.{noted-more, noted-room}
-use Rattle.search.proofs.Moves.{passed, pushed}
+use Rattle.search.proofs.Stepping.{passed, pushed}
 
 -- a place that is barred or has been found
 pub left-alone : {p next bar tail : ℕ} {queue parents : List ℕ} → 0 < getD parents next 0 + bar → Tried p next bar queue parents tail queue parents tail
