@@ -10,7 +10,8 @@ use Rattle.numbers.proofs.Integers.{ints, sub-nat, abs-nat, apart}
 use Rattle.model.specs.Accepted.{Windowed}
 use Rattle.model.specs.declared.PixelPosition.{PixelPosition}
 use Rattle.model.specs.Areas.{differenceRoom, markRoom}
-use Rattle.route.specs.Answer.{Window, Inside}
+use Rattle.way_back.specs.Ways.{Window}
+use Rattle.route.specs.Answer.{Inside}
 use Rattle.bench_c.specs.Ready.{Ready, Along, Long, windowAt}
 
 -- a test that failed did not pass

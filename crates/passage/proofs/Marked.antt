@@ -20,7 +20,8 @@ use Rattle.model.proofs.Reading.{after-before}
 use Rattle.model.specs.Accepted.{Within}
 use Rattle.marks.specs.Marks.{Ready, Centers, areas}
 use Rattle.marks.proofs.Showing.{marks-agree}
-use Rattle.route.specs.Answer.{Window, Inside}
+use Rattle.way_back.specs.Ways.{Window}
+use Rattle.route.specs.Answer.{Inside}
 use Rattle.passage.specs.Passing.{PassAreas, PassAnswers, Judges, passAreas}
 
 -- ---- the window and its ends, by their numbers

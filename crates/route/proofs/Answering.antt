@@ -23,7 +23,7 @@ use Rattle.search.specs.Places.{Blank}
 use Rattle.route.specs.declared.Way.{Way}
 use Rattle.route.specs.declared.Way.the-variants.{Found, NoWay}
 use Rattle.search.proofs.Centers.{place-in, center-in, center-place}
-use Rattle.route.proofs.Tracing.{trail-one}
+use Rattle.way_back.proofs.Tracing.{trail-one}
 use Rattle.search.proofs.Noted.{all-blank}
 use Rattle.route.proofs.Zeros.{all-zeros}
 

@@ -1,6 +1,4 @@
 -- The laws that the functions' proofs cite.
 pub mod Zeros
-pub mod Tracing
-pub mod Turning
 pub mod Answering
 pub mod Reading

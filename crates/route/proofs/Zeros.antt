@@ -10,14 +10,6 @@ use Rattle.model.specs.Areas.{cleared}
 use Rattle.search.specs.Search.{Listed}
 use Rattle.search.specs.Places.{Blank}
 
--- past its end an area reads as zero, so a number that is not zero is inside
-pub some-in : (area : List ℕ) (p : ℕ) → 0 < getD area p 0 → p < length area
-some-in area p some = split (decLt p (length area))
-  where
-    split : Dec (p < length area) → p < length area
-    split (yes l) = l
-    split (no l) = let out : length area ≤ p = omega arith in absurd (omega (arith, some, List·getD-eq-default area 0 out))
-
 -- an area with a zero everywhere is all zeros
 pub all-zeros : (area : List ℕ) → ((i : ℕ) → getD area i 0 ≡ 0) → area ≡ replicate (length area) 0
 all-zeros area zero-at = ext-getD 0 area (replicate (length area) 0) (sym (length-replicate (length area) 0)) (λ i l. zero-at i ∙ sym (getD-replicate (length area) i 0 0 l))

@@ -15,12 +15,6 @@ use Rattle.route.specs.declared.Way.the-variants.{Found, NoWay}
 abbrev pub Clear : List ℕ → ℕ → ℕ → ℕ → ℕ → ℕ → ℕ → Type 0
 Clear marks left top w h x y = (left ≤ x) × (top ≤ y) × Unmarked marks w h (x - left) (y - top)
 
--- A window of w by h centers at (left, top) whose centers are few enough, and fit route words.
-pub record Window (left top w h : ℕ) : Type 0 where
-  pub limit : w * h ≤ 1048576
-  pub wide : left + w ≤ 65536
-  pub high : top + h ≤ 65536
-
 -- p lies in the window.
 pub record Inside (left top w h : ℕ) (p : PixelPosition) : Type 0 where
   pub west : left ≤ p .x

@@ -8,7 +8,7 @@ use lib.ListN.{length}
 use Rattle.model.proofs.Shifted.{Agree}
 use Rattle.stamps.specs.declared.Frame.{Frame}
 use Rattle.marks.specs.Marks.{Unmarked}
-use Rattle.route.specs.Answer.{Window}
+use Rattle.way_back.specs.Ways.{Window}
 
 -- r is what f says of the map's centers, by any reading of them that agrees with the marks
 abbrev pub ByMarks : List ℕ → Frame → ((ℕ → ℕ → Bool) → Bool) → Bool → Type 0

@@ -7,7 +7,7 @@ ghost use lib.Dec.{eqb};
 ghost use lib.ListN.{length, getD, take, drop};
 ghost use Rattle.model.specs.Steps.{pointOf};
 ghost use Rattle.model.specs.RouteTest as test;
-ghost use Rattle.route.specs.Answer.{Window};
+ghost use Rattle.way_back.specs.Ways.{Window};
 ghost use Rattle.route_list.specs.Reading.{ByMarks, Framed};
 use model::PixelPosition;
 use stamps::Frame;

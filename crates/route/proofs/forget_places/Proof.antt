@@ -5,7 +5,8 @@ use native.Mathlib.Omega.{arith}
 use lib.ListN.{length, getD, replicate, length-set}
 use denote.Ref.{now}
 use borrow.Author.Needs.{needs}
-use Rattle.route.proofs.Zeros.{Kept, kept-all, kept-next, kept-none, some-in}
+use Rattle.numbers.proofs.Lists.{some-in}
+use Rattle.route.proofs.Zeros.{Kept, kept-all, kept-next, kept-none}
 use Rattle.route.proofs.forget_places.Statement.{statement}
 use Rattle.route.proofs.forget_places.Tie as tie
 

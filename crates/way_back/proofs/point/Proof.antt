@@ -1,9 +1,9 @@
--- `route::point` meets its contract: the sums and the product fit, since the window's centers fit route words. Assumes nothing.
+-- `way_back::point` meets its contract: the sums and the product fit, since the window's centers fit route words. Assumes nothing.
 use native.Mathlib.Omega.{arith}
 use Rattle.search.proofs.Centers.{center-in}
 use borrow.Author.Needs.{needs}
-use Rattle.route.proofs.point.Statement.{statement}
-use Rattle.route.proofs.point.Tie as tie
+use Rattle.way_back.proofs.point.Statement.{statement}
+use Rattle.way_back.proofs.point.Tie as tie
 
 rem-result : tie.Need-rem-result
 rem-result c = omega (arith, center-in (c .args .w) (c .args .h) (c .args .p) (c .pre .1))

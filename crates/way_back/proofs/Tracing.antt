@@ -5,12 +5,11 @@ use Prim.Native.Nat.{ℕ, _+_, _-_, _<_, _≤_}
 use native.Mathlib.Omega.{arith}
 use lib.ListN.{length, getD, set, take, drop, length-append, length-map}
 use lib.Seq.{take-at, drop-at}
-use Rattle.numbers.proofs.Lists.{store-next, front-length}
+use Rattle.numbers.proofs.Lists.{store-next, front-length, some-in}
 use Rattle.model.specs.Steps.{pointWord}
 use Rattle.search.specs.Places.{spot}
-use Rattle.route.proofs.Zeros.{some-in}
 use Rattle.search.specs.Search.{Trail, begin, back}
-use Rattle.route.specs.Trails.{Laid, Written, turned}
+use Rattle.way_back.specs.Ways.{Laid, Written, turned}
 
 module _ {parents : List ℕ} {s : ℕ} where
   pub trail-some : {q : ℕ} {ps : List ℕ} → Trail parents s q ps → 1 ≤ length ps

@@ -6,8 +6,8 @@ use native.Mathlib.Decide.{decLt, decLe, ℕ-discrete}
 use native.Mathlib.Omega.{arith}
 use lib.ListN.{length, getD, set, take, drop, length-append, length-drop, length-set, List·getD-append}
 use lib.Seq.{getD-set-same, getD-set-other, getD-at, getD-append-add, getD-take, getD-drop, ext-getD, length-take-le}
-use Rattle.route.specs.Trails.{turned}
-use Rattle.route.proofs.Tracing.{turned-length}
+use Rattle.way_back.specs.Ways.{turned}
+use Rattle.way_back.proofs.Tracing.{turned-length}
 
 -- word k of a list that is turned round
 turned-at : (l : List ℕ) (k : ℕ) → k < length l → getD (turned l) k 0 ≡ getD l (length l - 1 - k) 0

@@ -1,11 +1,11 @@
--- `route::turn` meets its contract. The loop's invariant: the outer i words on each side stand turned round. Assumes nothing.
+-- `way_back::turn` meets its contract. The loop's invariant: the outer i words on each side stand turned round. Assumes nothing.
 use mathlib.Core.Path.{refl}
 use Prim.Native.Nat.{_-_, _≤_}
 use native.Mathlib.Omega.{arith}
 use lib.ListN.{getD, length-set}
-use Rattle.route.proofs.Turning.{Turning, turning-next, turned-all}
-use Rattle.route.proofs.turn.Statement.{statement}
-use Rattle.route.proofs.turn.Tie as tie
+use Rattle.way_back.proofs.Turning.{Turning, turning-next, turned-all}
+use Rattle.way_back.proofs.turn.Statement.{statement}
+use Rattle.way_back.proofs.turn.Tie as tie
 
 abbrev Inv-loop : tie.InvT-loop
 Inv-loop out₀ n half i₀ out i = (i ≤ half) × Turning n i out₀ out

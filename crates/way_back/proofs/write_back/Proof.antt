@@ -1,14 +1,14 @@
--- `route::write_back` meets its contract. The loop's invariant: the words of the n places after p stand first, the end's before the others. Assumes nothing.
+-- `way_back::write_back` meets its contract. The loop's invariant: the words of the n places after p stand first, the end's before the others. Assumes nothing.
 use mathlib.Core.Path.{_≡_, sym, subst, subst₂, _∙_}
 use Prim.Native.Nat.{ℕ, _+_, _-_}
 use native.Mathlib.Omega.{arith}
 use lib.ListN.{length, getD, set, length-set}
 use denote.Ref.{now}
 use borrow.Author.Needs.{needs}
-use Rattle.route.specs.Trails.{Short, Laid}
-use Rattle.route.proofs.Tracing.{Laying, laying-begun, laying-room, laying-long, laying-more, laying-next, laid-all}
-use Rattle.route.proofs.write_back.Statement.{statement}
-use Rattle.route.proofs.write_back.Tie as tie
+use Rattle.way_back.specs.Ways.{Short, Laid}
+use Rattle.way_back.proofs.Tracing.{Laying, laying-begun, laying-room, laying-long, laying-more, laying-next, laid-all}
+use Rattle.way_back.proofs.write_back.Statement.{statement}
+use Rattle.way_back.proofs.write_back.Tie as tie
 
 abbrev Inv-loop : tie.InvT-loop
 Inv-loop parents out₀ left top w h start end n₀ p₀ hop₀ out n p hop = Laying parents start end left top w out₀ out n p × Short hop
