@@ -3,6 +3,7 @@ use mathlib.Core.Path.{sym}
 use Prim.Native.Nat.{_*_}
 use denote.Ref.{now}
 use Rattle.route.proofs.Answering.{says-out, part-long, part-blank, part-back}
+use native.Mathlib.Omega.{arith}
 use borrow.Author.Needs.{needs}
 use Rattle.route.proofs.find_chain.Statement.{statement}
 use Rattle.route.proofs.find_chain.Tie as tie
@@ -33,9 +34,11 @@ chain-places-requires c κs =
     let i = c .before .before in
     let o = i .before .before .before .before .before in
     let a = o .args in
+    let start-in = i .before .local-index .ensures .0 in
+    let end-in = i .local-index2 .ensures .0 in
     let n = a .w * a .h in (
       record { limit = o .pre .0 .0 .limit; marks-long = o .pre .1 .0 .marks-long; parents-long = part-long n (now (a .parents)) (o .pre .1 .0 .parents-long); queue-long = part-long n (now (a .queue)) (o .pre .1 .0 .queue-long) },
-      ((i .before .local-index .ensures .0, i .local-index2 .ensures .0), (part-blank n (now (a .parents)) (o .pre .1 .1 .0), part-blank n (now (a .queue)) (o .pre .1 .1 .1))),
+      ((omega arith, omega arith), (part-blank n (now (a .parents)) (o .pre .1 .1 .0), part-blank n (now (a .queue)) (o .pre .1 .1 .1))),
     )
 
 same-length : tie.Need-same-length

@@ -1,4 +1,5 @@
 -- `way_back::write_way` meets its contract. Assumes nothing.
+use native.Mathlib.Omega.{arith}
 use borrow.Author.Needs.{needs}
 use Rattle.way_back.proofs.Tracing.{laid-room, turned-written}
 use Rattle.way_back.proofs.write_way.Statement.{statement}
@@ -8,7 +9,7 @@ write-back-requires : tie.Need-write-back-requires
 write-back-requires c κs = c .before .before .before .pre
 
 turn-requires : tie.Need-turn-requires
-turn-requires c κs = laid-room (c .before .before .before .write-back .ensures)
+turn-requires c κs = omega (arith, laid-room (c .before .before .before .write-back .ensures))
 
 same-length : tie.Need-same-length
 same-length c = search needs
