@@ -138,7 +138,7 @@ fn no_packed() -> PackedQuery
 fn read_all(h: Header, s: &[u8], cells: &mut [u8], words: &mut [i32]) -> PackedQuery
     requires header_is { HeaderIs s.now h }
     requires s_in_bounds { (area_in s.now ≤ length cells.old) × (4 * (header_in s.now).obstacles ≤ length words.old) }
-    ensures { ReadLeaves s.now (record { cells = cells.entry.now; words = words.old }) (record { cells = cells.exit.now; words = words.new }) Outcome.Accepted result }
+    ensures { ReadLeaves s.now (record { cells = cells.old; words = words.old }) (record { cells = cells.new; words = words.new }) Outcome.Accepted result }
 {
     let n = area(h);
     let k = 4 * h.obstacles;
@@ -155,7 +155,7 @@ fn read_all(h: Header, s: &[u8], cells: &mut [u8], words: &mut [i32]) -> PackedQ
 
 // Reads a packed query: the cells to area 0, the obstacles' words to area 1, the rest to the answer.
 pub fn read_packed(s: &[u8], cells: &mut [u8], words: &mut [i32]) -> PackedReply
-    ensures { ReadAnswers s.now (record { cells = cells.entry.now; words = words.old }) (record { cells = cells.exit.now; words = words.new }) result }
+    ensures { ReadAnswers s.now (record { cells = cells.old; words = words.old }) (record { cells = cells.new; words = words.new }) result }
 {
     let told = validate_read(s, cells.len(), words.len());
     let Outcome::Accepted = told else {

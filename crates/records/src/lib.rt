@@ -72,7 +72,7 @@ fn check_copied(
     route: &mut [u32],
 ) -> WallReply
     requires { told ≡ Outcome.Accepted → 4 * n ≤ length words.now }
-    ensures { Continues told (ground width height cells.now (take (4 * n) words.now)) query (record { issues = issues.entry.now; base = base.old; plan = planned.old; marks = marks.old; parents = parents.old; queue = queue.old; route = route.old }) (record { issues = issues.exit.now; base = base.new; plan = planned.new; marks = marks.new; parents = parents.new; queue = queue.new; route = route.new }) result }
+    ensures { Continues told (ground width height cells.now (take (4 * n) words.now)) query (record { issues = issues.old; base = base.old; plan = planned.old; marks = marks.old; parents = parents.old; queue = queue.old; route = route.old }) (record { issues = issues.new; base = base.new; plan = planned.new; marks = marks.new; parents = parents.new; queue = queue.new; route = route.new }) result }
 {
     let Outcome::Accepted = told else {
         return walls::refused(told);
@@ -110,7 +110,7 @@ pub fn check_wall_records(
     queue: &mut [u32],
     route: &mut [u32],
 ) -> WallReply
-    ensures { RecordAnswers width height cells.now rects.now query words.old words.new (record { issues = issues.entry.now; base = base.old; plan = planned.old; marks = marks.old; parents = parents.old; queue = queue.old; route = route.old }) (record { issues = issues.exit.now; base = base.new; plan = planned.new; marks = marks.new; parents = parents.new; queue = queue.new; route = route.new }) result }
+    ensures { RecordAnswers width height cells.now rects.now query words.old words.new (record { issues = issues.old; base = base.old; plan = planned.old; marks = marks.old; parents = parents.old; queue = queue.old; route = route.old }) (record { issues = issues.new; base = base.new; plan = planned.new; marks = marks.new; parents = parents.new; queue = queue.new; route = route.new }) result }
 {
     let told = copy_obstacles(rects, words);
     let n = rects.len();

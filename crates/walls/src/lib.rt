@@ -84,7 +84,7 @@ fn accepted(
 ) -> WallCheck
     requires valid { Valid (ground width height cells.now words.now) query }
     requires check_enough { CheckEnough (ground width height cells.now words.now) query (record { issues = issues.now; base = base.old; plan = planned.old; marks = marks.old; parents = parents.old; queue = queue.old; route = route.old }) }
-    ensures { Checked (ground width height cells.now words.now) query (record { issues = issues.entry.now; base = base.old; plan = planned.old; marks = marks.old; parents = parents.old; queue = queue.old; route = route.old }) (record { issues = issues.exit.now; base = base.new; plan = planned.new; marks = marks.new; parents = parents.new; queue = queue.new; route = route.new }) result }
+    ensures { Checked (ground width height cells.now words.now) query (record { issues = issues.old; base = base.old; plan = planned.old; marks = marks.old; parents = parents.old; queue = queue.old; route = route.old }) (record { issues = issues.new; base = base.new; plan = planned.new; marks = marks.new; parents = parents.new; queue = queue.new; route = route.new }) result }
 {
     let placements = placement::assess_placements(width, height, cells, words, query.plan, issues);
     let window = query.window;
@@ -127,7 +127,7 @@ pub fn check_wall(
     queue: &mut [u32],
     route: &mut [u32],
 ) -> WallReply
-    ensures { Answers (ground width height cells.now words.now) query (record { issues = issues.entry.now; base = base.old; plan = planned.old; marks = marks.old; parents = parents.old; queue = queue.old; route = route.old }) (record { issues = issues.exit.now; base = base.new; plan = planned.new; marks = marks.new; parents = parents.new; queue = queue.new; route = route.new }) result }
+    ensures { Answers (ground width height cells.now words.now) query (record { issues = issues.old; base = base.old; plan = planned.old; marks = marks.old; parents = parents.old; queue = queue.old; route = route.old }) (record { issues = issues.new; base = base.new; plan = planned.new; marks = marks.new; parents = parents.new; queue = queue.new; route = route.new }) result }
 {
     let lent = Lent {
         issues: issues.len(),
@@ -184,7 +184,7 @@ fn tested(
     marks: &mut [u8],
 ) -> bool
     requires { Valid (ground width height cells.now words.now) query × TestEnough query (record { base = base.now; plan = planned.old; marks = marks.old }) }
-    ensures { TestLeaves (ground width height cells.now words.now) query list.now (record { base = base.entry.now; plan = planned.old; marks = marks.old }) (record { base = base.exit.now; plan = planned.new; marks = marks.new }) Outcome.Accepted result }
+    ensures { TestLeaves (ground width height cells.now words.now) query list.now (record { base = base.old; plan = planned.old; marks = marks.old }) (record { base = base.new; plan = planned.new; marks = marks.new }) Outcome.Accepted result }
 {
     let window = query.window;
     marks::mark_centers(
@@ -218,7 +218,7 @@ pub fn test_route(
     planned: &mut [u32],
     marks: &mut [u8],
 ) -> TestReply
-    ensures { TestAnswers (ground width height cells.now words.now) query list.now (record { base = base.entry.now; plan = planned.old; marks = marks.old }) (record { base = base.exit.now; plan = planned.new; marks = marks.new }) result }
+    ensures { TestAnswers (ground width height cells.now words.now) query list.now (record { base = base.old; plan = planned.old; marks = marks.old }) (record { base = base.new; plan = planned.new; marks = marks.new }) result }
 {
     let told = validate_test(
         width,

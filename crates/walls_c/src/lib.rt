@@ -25,7 +25,7 @@ pub extern "C" fn walls_c_check(
     route: &mut [u32],
     answer: &mut [u64],
 ) -> u64
-    ensures { CheckSaid (ground width height cells.now obstacles.now) (query_of query.now buildings) (record { issues = issues.entry.now; base = base.old; plan = planned.old; marks = marks.old; parents = parents.old; queue = queue.old; route = route.old }) (record { issues = issues.exit.now; base = base.new; plan = planned.new; marks = marks.new; parents = parents.new; queue = queue.new; route = route.new }) answer.old answer.new result }
+    ensures { CheckSaid (ground width height cells.now obstacles.now) (query_of query.now buildings) (record { issues = issues.old; base = base.old; plan = planned.old; marks = marks.old; parents = parents.old; queue = queue.old; route = route.old }) (record { issues = issues.new; base = base.new; plan = planned.new; marks = marks.new; parents = parents.new; queue = queue.new; route = route.new }) answer.old answer.new result }
 {
     let q = query_words::query_of(query, buildings);
     let reply = walls::check_wall(
@@ -42,7 +42,7 @@ pub extern "C" fn walls_c_read_packed(
     obstacles: &mut [i32],
     answer: &mut [u64],
 ) -> u64
-    ensures { ReadSaid bytes.now (record { cells = cells.entry.now; words = obstacles.old }) (record { cells = cells.exit.now; words = obstacles.new }) answer.old answer.new result }
+    ensures { ReadSaid bytes.now (record { cells = cells.old; words = obstacles.old }) (record { cells = cells.new; words = obstacles.new }) answer.old answer.new result }
 {
     let reply = packed::read_packed(bytes, cells, obstacles);
     words::put_read(answer, reply)
@@ -63,7 +63,7 @@ pub extern "C" fn walls_c_test_route(
     marks: &mut [u8],
     answer: &mut [u64],
 ) -> u64
-    ensures { TestSaid (ground width height cells.now obstacles.now) (query_of query.now buildings) list.now (record { base = base.entry.now; plan = planned.old; marks = marks.old }) (record { base = base.exit.now; plan = planned.new; marks = marks.new }) answer.old answer.new result }
+    ensures { TestSaid (ground width height cells.now obstacles.now) (query_of query.now buildings) list.now (record { base = base.old; plan = planned.old; marks = marks.old }) (record { base = base.new; plan = planned.new; marks = marks.new }) answer.old answer.new result }
 {
     let q = query_words::query_of(query, buildings);
     let reply = walls::test_route(
@@ -86,7 +86,7 @@ fn check_read(
     route: &mut [u32],
 ) -> WallReply
     requires { Held p cells.now words.now }
-    ensures { Answers (ground p.width p.height (take (p.width * p.height) cells.now) (take (4 * p.obstacles) words.now)) p.query (record { issues = issues.entry.now; base = base.old; plan = planned.old; marks = marks.old; parents = parents.old; queue = queue.old; route = route.old }) (record { issues = issues.exit.now; base = base.new; plan = planned.new; marks = marks.new; parents = parents.new; queue = queue.new; route = route.new }) result }
+    ensures { Answers (ground p.width p.height (take (p.width * p.height) cells.now) (take (4 * p.obstacles) words.now)) p.query (record { issues = issues.old; base = base.old; plan = planned.old; marks = marks.old; parents = parents.old; queue = queue.old; route = route.old }) (record { issues = issues.new; base = base.new; plan = planned.new; marks = marks.new; parents = parents.new; queue = queue.new; route = route.new }) result }
 {
     let n = p.width as usize * p.height as usize;
     let k = 4 * p.obstacles;
@@ -122,7 +122,7 @@ pub extern "C" fn walls_c_check_packed(
     route: &mut [u32],
     answer: &mut [u64],
 ) -> u64
-    ensures { PackedSaid bytes.now (record { cells = cells.entry.now; words = obstacles.old }) (record { cells = cells.exit.now; words = obstacles.new }) (record { issues = issues.entry.now; base = base.old; plan = planned.old; marks = marks.old; parents = parents.old; queue = queue.old; route = route.old }) (record { issues = issues.exit.now; base = base.new; plan = planned.new; marks = marks.new; parents = parents.new; queue = queue.new; route = route.new }) answer.old answer.new result }
+    ensures { PackedSaid bytes.now (record { cells = cells.old; words = obstacles.old }) (record { cells = cells.new; words = obstacles.new }) (record { issues = issues.old; base = base.old; plan = planned.old; marks = marks.old; parents = parents.old; queue = queue.old; route = route.old }) (record { issues = issues.new; base = base.new; plan = planned.new; marks = marks.new; parents = parents.new; queue = queue.new; route = route.new }) answer.old answer.new result }
 {
     let read = packed::read_packed(bytes, cells, obstacles);
     let told = read.outcome;
