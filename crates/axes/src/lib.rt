@@ -1,4 +1,5 @@
 // A building's sides on one axis.
+#![tactic(auto)]
 ghost use Rattle.std.specs.Prelude.{◌≡◌, ◌+◌, ◌≤◌, ◌<◌, pos, ◌-ℤ◌};
 ghost use Rattle.axes.specs.Axes.{axis_of};
 

@@ -1,4 +1,5 @@
 // The program wall report: the bytes of a packed query to the text that is printed.
+#![tactic(auto)]
 ghost use Rattle.std.specs.Prelude.{◌≡◌, ◌++◌, ◌≤◌, ◌<◌, length};
 ghost use Rattle.model.specs.Ground.{ground};
 ghost use Rattle.model.specs.Refusal.{refusal, given, first};

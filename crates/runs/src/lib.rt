@@ -1,4 +1,5 @@
 // What the programs that the gate runs have in common: printing a refusal with its values, and opening a file by its number.
+#![tactic(auto)]
 use libc::STDOUT_FILENO;
 use model::Outcome;
 

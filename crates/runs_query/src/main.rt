@@ -1,4 +1,5 @@
 // Runs `validate_query` on one query with one or two of its numbers changed, case by case, and prints the refusal's number and values, or ok.
+#![tactic(auto)]
 ghost use Rattle.std.specs.Prelude.{◌≡◌, ◌≤◌, length};
 
 use model::{

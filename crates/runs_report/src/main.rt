@@ -1,4 +1,5 @@
 // Runs the program on each file of data/, and prints the file's name before what the program prints. `make.py` says what each holds.
+#![tactic(auto)]
 fn one(k: u8) {
     let input = runs::open_numbered(k);
     if input < 0 {

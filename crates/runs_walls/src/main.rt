@@ -1,6 +1,7 @@
 // Runs `check_wall` on each file of data/: seven words, how many places the areas 2 to 8 have, and then a packed query. `make.py` says what each holds.
 //
 // Every place of an area comes as 7. Of areas 3 to 7 it prints how many places at the front are then zero, and of every area how many are still 7.
+#![tactic(auto)]
 ghost use Rattle.std.specs.Prelude.{◌≤◌};
 
 use libc::STDOUT_FILENO;

@@ -3,6 +3,7 @@
 // A center is known by its place, its row times the window's width plus its column. A mark is 0 at a free center. A
 // parent is 0 where a center has not been found, and its parent's place and 1 else. Each center enters the queue at
 // most once, so the queue never wraps.
+#![tactic(auto)]
 ghost use Rattle.std.specs.Prelude.{◌≡◌, ℕ, ◌+◌, ◌*◌, ◌/◌, ◌%◌, ◌<◌, ◌≤◌, length, get_or};
 ghost use Rattle.model.specs.Steps.{raised};
 ghost use Rattle.marks.specs.Marks.{Unmarked};
