@@ -1,5 +1,6 @@
 // A building's sides on one axis.
 #![tactic(auto)]
+
 ghost use Rattle.std.specs.Prelude.{◌≡◌, ◌+◌, ◌≤◌, ◌<◌, pos, ◌-ℤ◌};
 ghost use Rattle.axes.specs.Axes.{axis_of};
 

@@ -1,5 +1,6 @@
 // A cursor over bits, and what it reads: fields, words, points, boxes, buildings, and a query behind the obstacles.
 #![tactic(auto)]
+
 ghost use Rattle.std.specs.Prelude.{◌≡◌, ◌++◌, ℕ, ◌+◌, ◌*◌, ◌^◌, ◌≤◌, ◌<◌, length, get_or, drop};
 ghost use Rattle.model.specs.Lists.{table};
 ghost use Rattle.model.specs.Packed.{field_at, signed, rect_in, point_in, extents_in, building_in, no_building};

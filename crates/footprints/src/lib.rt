@@ -1,5 +1,6 @@
 // The cells under a building: the first on which it cannot stand, and whether there is one.
 #![tactic(auto)]
+
 ghost use Rattle.std.specs.Prelude.{◌≡◌, not, ◌&&◌, ◌≤◌, length};
 ghost use Rattle.model.specs.Ground.{walkable, buildable};
 ghost use Rattle.footprints.specs.Cells.{FirstUnfit, Covers, bad_under, head, non_empty};

@@ -2,6 +2,7 @@
 // rectangles cover each place. The grid lies row by row at the front of a slice that the caller lends; what lies behind it is left
 // alone. All arithmetic is modulo 2^32, so no stamp and no sum needs a bound: only a count has to be below 2^32.
 #![tactic(auto)]
+
 ghost use Rattle.std.specs.Prelude.{◌≡◌, ◌+◌, ◌*◌, ◌<◌, ◌≤◌, length};
 ghost use Rattle.model.specs.Areas.{cleared};
 ghost use Rattle.grid.specs.Grid.{Boxed, Finished, Summed, bump};

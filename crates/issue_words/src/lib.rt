@@ -1,5 +1,6 @@
 // Placement issues as words, written one behind the other to a lent area.
 #![tactic(auto)]
+
 ghost use Rattle.std.specs.Prelude.{◌≡◌, map, ◌+◌, ◌≤◌, ◌<◌, length};
 ghost use Rattle.model.specs.Placement.{issue_word};
 ghost use Rattle.model.specs.Refusal.{caps};

@@ -1,5 +1,6 @@
 // A refusal's number and values in document 01's table.
 #![tactic(auto)]
+
 ghost use Rattle.std.specs.Prelude.{◌≡◌};
 ghost use Rattle.model.specs.Refusal.{end_number, refusal};
 ghost use Rattle.model.specs.Words.{value_words};

@@ -1,5 +1,6 @@
 // Text and numbers in a buffer that the caller lends. Each function puts its text behind the first `at` bytes and answers where the text ends.
 #![tactic(auto)]
+
 ghost use Rattle.std.specs.Prelude.{◌++◌};
 ghost use Rattle.model.specs.Report.{bytes, decimal};
 ghost use Rattle.text.specs.Writing.{Fits, Wrote};

@@ -1,0 +1,26 @@
+-- `bits::Bits::words` meets its contract. After k turns the first k places hold the first k fields, and the rest is as it came. Assumes nothing.
+use native.Mathlib.Omega.{arith}
+use Prim.Native.Nat.{ℕ, ◌+◌, ◌*◌, ◌-◌, ◌≤◌}
+use mathlib.Core.Path.{◌≡◌, refl, ap, ◌∙◌}
+use mathlib.Core.List.{List, ◌++◌}
+use lib.ListN.{length, drop}
+use lib.IntN.{ℤ}
+use mir.Facts.{to_z-of_z}
+use mir.Val.{SFits}
+use mir.Syntax.{w32}
+use borrow.Author.Rules.{rules}
+use Rattle.model.specs.Lists.{table}
+use Rattle.model.specs.Packed.{field_at, signed}
+use Rattle.model.proofs.Lists.{table_store, table_front}
+use Rattle.bits.proofs.Bits.words.Given as goal
+
+-- what goes to place k
+abbrev pub word : List ℕ → ℕ → ℕ → ℤ
+word s i k = signed (field_at s (i + 32 * k) 32)
+
+abbrev pub invariant-loop-k : goal.invariant-loop-k
+invariant-loop-k l =
+    (l.k ≤ l.count) × (l.cur.at ≡ l.initial.cur.at + 32 * l.k) × (l.out ≡ table (word l.s l.initial.cur.at) l.k ++ drop l.k l.initial.out)
+
+abbrev pub decreases-loop-k : goal.decreases-loop-k
+decreases-loop-k l = l.count - l.k

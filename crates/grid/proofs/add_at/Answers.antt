@@ -1,0 +1,6 @@
+-- `grid::add_at` meets its contract. Assumes nothing.
+use Rattle.std.proofs.Common.{rules}
+use Rattle.grid.proofs.add_at.Goals as goal
+
+pub returns : goal.returns
+returns c = rw c.wrapping_add_u32.ensures

@@ -1,0 +1,15 @@
+-- `text::put` meets its contract. After k turns the first k bytes of the text are pasted over the buffer. Assumes nothing.
+use native.Mathlib.Omega.{arith}
+use Prim.Native.Nat.{◌+◌, ◌-◌, ◌≤◌}
+use mathlib.Core.Path.{◌≡◌, refl, ap, ◌∙◌}
+use native.Mathlib.Numerals.{add-one}
+use lib.ListN.{length, take, drop, length-set}
+use lib.Seq.{paste, paste-zero, paste-suc, take-paste, drop-paste, take_all}
+use Rattle.text.proofs.put.Given as goal
+
+abbrev pub invariant-loop-k : goal.invariant-loop-k
+invariant-loop-k l =
+    (l.k ≤ length l.text) × (length l.out ≡ length l.initial.out) × (l.out ≡ paste l.initial.out l.at l.text l.k)
+
+abbrev pub decreases-loop-k : goal.decreases-loop-k
+decreases-loop-k l = length l.text - l.k
