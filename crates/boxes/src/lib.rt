@@ -1,5 +1,6 @@
 // Rectangle tests, and a building's two boxes.
 #![tactic(auto)]
+
 ghost use Rattle.std.specs.Prelude.{◌≡◌, ◌+◌, ◌*◌, ◌≤◌, nat_abs, ◌-ℤ◌, length, get_or};
 ghost use Rattle.model.specs.Boxes.{meets, in_map, width_of, height_of};
 ghost use Rattle.model.specs.Check.{no_rect};

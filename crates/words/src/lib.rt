@@ -1,5 +1,6 @@
 // Answers as words, for hosts in other languages.
 #![tactic(auto)]
+
 ghost use Rattle.std.specs.Prelude.{◌≡◌, ◌+◌, ◌*◌, ◌≤◌, ◌<◌, set, take};
 ghost use mathlib.Core.List.{[], ◌∷◌, flat_map};
 ghost use Rattle.model.specs.Passage.{rank};

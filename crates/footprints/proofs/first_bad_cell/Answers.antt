@@ -7,13 +7,13 @@ use lib.ListN.{length}
 use Rattle.numbers.proofs.Places.{rows_fit}
 use Rattle.footprints.specs.Cells.{FirstUnfit, left_cell, right_cell, bottom_cell, head}
 use Rattle.footprints.proofs.Cells.{Clear, rows_above, row_passed, row_stopped, rows_done}
+use Rattle.footprints.proofs.first_bad_cell.Goals.{At-loop-y}
 use Rattle.footprints.proofs.first_bad_cell.Goals as goal
 
 -- the row's cells under the building are cells of the map
 row_within : (c : goal.In-loop-y) → c.loop-y.y * c.args.width + right_cell c.args.b ≤ length c.args.cells.now
 row_within c =
-    let s = c.before.before.before.before.before.before.before in
-    omega (arith, rows_fit s.args.width c.loop-y.y (bottom_cell s.args.b) (length s.args.cells.now) (omega arith) s.requires.down)
+    omega (arith, rows_fit c.args.width c.loop-y.y (bottom_cell c.args.b) (length c.args.cells.now) (omega arith) c.requires.down)
 
 pub loop-y-init : goal.loop-y-init
 loop-y-init c =
@@ -34,14 +34,11 @@ first_unfit-found-requires c = omega (arith, row_within c)
 
 pub returns-in_default : goal.returns-in_default
 returns-in_default c =
-    let f = c.before.before in
-    let l : goal.At-loop-y = f.before.before in
-    let s = l.before.before.before.before.before.before in
-    let e = c.enum_told-in_default-1.given.1 in
+    let e = c.in_default.is in
     e
     ∙ sym
-    (row_stopped s.args.width s.args.cells.now s.args.b l.loop-y.y l.loop-y.invariant.1 c.enum_told-in_default-1.given.0.0 s.requires (omega arith) (omega arith)
-    (subst (FirstUnfit s.args.cells.now (l.loop-y.y * s.args.width + left_cell s.args.b) (l.loop-y.y * s.args.width + right_cell s.args.b)) e f.first_unfit-found.ensures))
+    (row_stopped c.args.width c.args.cells.now c.args.b c.loop-y.y c.loop-y.invariant.1 c.in_default.field-0 c.requires (omega arith) (omega arith)
+    (subst (FirstUnfit c.args.cells.now (c.loop-y.y * c.args.width + left_cell c.args.b) (c.loop-y.y * c.args.width + right_cell c.args.b)) e c.first_unfit-found.ensures))
 
 pub overflow_add-y : goal.overflow_add-y
 overflow_add-y c = omega arith
@@ -51,16 +48,12 @@ loop-y-smaller c = omega arith
 
 pub loop-y-preserved : goal.loop-y-preserved
 loop-y-preserved c =
-    let f = c.before.before in
-    let l : goal.At-loop-y = f.before.before in
-    let a = l.args in (
+    let a = c.args in (
       omega arith,
-      row_passed a.width a.cells.now a.b l.loop-y.y l.loop-y.invariant.1
-          (subst (FirstUnfit a.cells.now (l.loop-y.y * a.width + left_cell a.b) (l.loop-y.y * a.width + right_cell a.b)) c.enum_told-1.given.1 f.first_unfit-found.ensures),
+      row_passed a.width a.cells.now a.b c.loop-y.y c.loop-y.invariant.1
+          (subst (FirstUnfit a.cells.now (c.loop-y.y * a.width + left_cell a.b) (c.loop-y.y * a.width + right_cell a.b)) c.in-Nothing.is c.first_unfit-found.ensures),
     )
 
 pub returns : goal.returns
 returns c =
-    let l = c.before in
-    let s = l.before.before.before.before.before.before in
-    sym (ap head (rows_done s.args.width s.args.cells.now s.args.b l.loop-y.y l.loop-y.invariant.1 (omega arith)))
+    sym (ap head (rows_done c.args.width c.args.cells.now c.args.b c.loop-y.y c.loop-y.invariant.1 (omega arith)))

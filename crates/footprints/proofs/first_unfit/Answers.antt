@@ -16,8 +16,7 @@ bounds-cells-i c = omega arith
 
 pub returns-then-not-fit : goal.returns-then-not-fit
 returns-then-not-fit c =
-    let l = c.before.before.before.before in
-    record { low = omega arith; high = omega arith; here = ap not (sym c.fit.ensures) ∙ c.if-not-fit.true; before = l.loop-i.invariant.1 }
+    record { low = omega arith; high = omega arith; here = ap not (sym c.fit.ensures ∙ c.if-not-fit.true); before = c.loop-i.invariant.1 }
 
 pub overflow_add-i : goal.overflow_add-i
 overflow_add-i c = omega arith
@@ -27,9 +26,8 @@ loop-i-smaller c = omega arith
 
 pub loop-i-preserved : goal.loop-i-preserved
 loop-i-preserved c =
-    let l = c.before.before.before.before in
-    let a = l.args in
-    (omega arith, λ j h k. below_more (λ j. a.from ≤ j → unfit a.cells.now j ≡ false) l.loop-i.i (λ j k h. l.loop-i.invariant.1 j h k) (λ h. ap not (sym c.fit.ensures) ∙ c.if-not-fit.false) j k h)
+    let a = c.args in
+    (omega arith, λ j h k. below_more (λ j. a.from ≤ j → unfit a.cells.now j ≡ false) c.loop-i.i (λ j k h. c.loop-i.invariant.1 j h k) (λ h. ap not (sym c.fit.ensures ∙ c.if-not-fit.false)) j k h)
 
 pub returns : goal.returns
 returns c j h k = c.loop-i.invariant.1 j h (omega arith)

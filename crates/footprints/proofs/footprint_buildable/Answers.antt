@@ -9,9 +9,9 @@ use Rattle.footprints.proofs.footprint_buildable.Goals as goal
 pub returns-in_default : goal.returns-in_default
 returns-in_default c =
     let a = c.args in
-    sym (ap not (head_at (bad_under a.width a.cells.now a.b) c.enum_told-in_default-1.given.0.0 (sym c.first_bad_cell-found.ensures ∙ c.enum_told-in_default-1.given.1)))
+    sym (ap not (head_at (bad_under a.width a.cells.now a.b) c.in_default.field-0 (sym c.first_bad_cell-found.ensures ∙ c.in_default.is)))
 
 pub returns : goal.returns
 returns c =
     let a = c.args in
-    sym (ap not (head_nothing (bad_under a.width a.cells.now a.b) (sym c.first_bad_cell-found.ensures ∙ c.enum_told-1.given.1)))
+    sym (ap not (head_nothing (bad_under a.width a.cells.now a.b) (sym c.first_bad_cell-found.ensures ∙ c.in-Nothing.is)))

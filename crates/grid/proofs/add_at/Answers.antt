@@ -3,4 +3,4 @@ use Rattle.std.proofs.Common.{rules}
 use Rattle.grid.proofs.add_at.Goals as goal
 
 pub returns : goal.returns
-returns c = rw c.wrapping_add_u32.ensures
+returns c = rw c.wrapping_add_u32.ensures.value

@@ -7,12 +7,12 @@ use Rattle.grid.proofs.add_rect.Goals as goal
 pub returns-then-left-right : goal.returns-then-left-right
 returns-then-left-right c =
     let a = c.args in
-    record { stamped = λ m C h D. empty_box a.stride m a.left a.top a.right a.bottom C a.grid-1.now (inl c.if-left-right.true) D; rest = λ n h. refl }
+    record { stamped = λ m C h D. empty_box a.stride m a.left a.top a.right a.bottom C a.grid.now (inl c.if-left-right.true) D; rest = λ n h. refl }
 
 pub returns-then-top-bottom : goal.returns-then-top-bottom
 returns-then-top-bottom c =
     let a = c.args in
-    record { stamped = λ m C h D. empty_box a.stride m a.left a.top a.right a.bottom C a.grid-1.now (inr c.if-top-bottom.true) D; rest = λ n h. refl }
+    record { stamped = λ m C h D. empty_box a.stride m a.left a.top a.right a.bottom C a.grid.now (inr c.if-top-bottom.true) D; rest = λ n h. refl }
 
 pub overflow_mul-upper : goal.overflow_mul-upper
 overflow_mul-upper c =
@@ -50,6 +50,6 @@ returns c =
     let lr : a.left < a.right = p1.if-left-right.false in
     let tb : a.top < a.bottom = p1.if-top-bottom.false in
     rw (p4.add_at-4.ensures, p3.add_at-3.ensures, p2.add_at-2.ensures, p1.add_at.ensures) record {
-      stamped = λ m C h D. stamped a.stride a.left a.top a.right a.bottom a.grid-1.now lr tb at-start.requires.0 at-start.requires.1 m C D;
-      rest = stamps_rest a.stride a.left a.top a.right a.bottom a.grid-1.now lr tb at-start.requires.0 at-start.requires.1;
+      stamped = λ m C h D. stamped a.stride a.left a.top a.right a.bottom a.grid.now lr tb at-start.requires.right_lt_stride at-start.requires.stride_in_bounds m C D;
+      rest = stamps_rest a.stride a.left a.top a.right a.bottom a.grid.now lr tb at-start.requires.right_lt_stride at-start.requires.stride_in_bounds;
     }

@@ -8,12 +8,12 @@ use Rattle.grid.proofs.finish.Goals as goal
 pub sums-requires : goal.sums-requires
 sums-requires c =
     let a = c.args in
-    omega (arith, row_below a.stride 0 0 a.rows (omega arith) (omega arith))
+    record { step_nonzero = omega (arith, row_below a.stride 0 0 a.rows (omega arith) (omega arith)); n_in_bounds = omega (arith, row_below a.stride 0 0 a.rows (omega arith) (omega arith)) }
 
 pub sums-requires-2 : goal.sums-requires-2
 sums-requires-2 c =
     let a = c.args in
-    omega (arith, row_below a.stride (a.stride - 1) 0 a.rows (omega arith) (omega arith))
+    record { step_nonzero = omega (arith, row_below a.stride (a.stride - 1) 0 a.rows (omega arith) (omega arith)); n_in_bounds = omega (arith, row_below a.stride (a.stride - 1) 0 a.rows (omega arith) (omega arith)) }
 
 pub returns : goal.returns
 returns c =
@@ -22,6 +22,6 @@ returns c =
     let a = p1.args in
     let A = p1.sums.ensures in
     let B = p2.sums-2.ensures in record {
-      counted = λ C D. two_passes a.stride a.rows C a.grid-1.now p1.sums.new.0 p2.sums-2.new.0 D A B (λ k. omega (arith, c.slice_known-3-1.given k));
-      rest = same_rest 0 (a.rows * a.stride) p2.sums-2.new.0 a.grid-1.now (p2.sums-2.auto.0 ∙ p1.sums.auto.0) (λ k h. B.rest k h ∙ A.rest k h);
+      counted = λ C D. two_passes a.stride a.rows C a.grid.now p1.sums.new.grid p2.sums-2.new.grid D A B (λ k. omega (arith, c.slice_known-3-1.given k));
+      rest = same_rest 0 (a.rows * a.stride) p2.sums-2.new.grid a.grid.now (p2.sums-2.auto.grid ∙ p1.sums.auto.grid) (λ k h. B.rest k h ∙ A.rest k h);
     }

@@ -41,7 +41,7 @@ loop-k-preserved c =
       omega arith,
       omega arith,
       simp length-set l.invariant.2,
-      one_summed at-start.args.step l.k c.wrapping_add_u32-sum.result at-start.args.grid.now l.grid (omega arith) (omega arith) (omega arith) c.wrapping_add_u32-sum.ensures l.invariant.3,
+      one_summed at-start.args.step l.k c.wrapping_add_u32-sum.result at-start.args.grid.now l.grid (omega arith) (omega arith) (omega arith) c.wrapping_add_u32-sum.ensures.value l.invariant.3,
     )
 
 pub returns : goal.returns

@@ -9,12 +9,10 @@ use Rattle.text.proofs.put_number.Goals as goal
 
 pub put-requires : goal.put-requires
 put-requires c =
-    let s = c.before.before.before.before.before in
     let d = c.decimal-k.ensures in
-    omega (arith, s.requires, ap length (d.1.1 ∙ spelt s.ranges.n.fits d.1.0))
+    omega (arith, c.requires, ap length (d.digits ∙ spelt c.ranges.n.fits d.len))
 
 pub returns : goal.returns
 returns c =
-    let s = c.before.before.before.before.before.before.before.before in
     let d = c.decimal-k.ensures in
-    said (d.1.1 ∙ spelt s.ranges.n.fits d.1.0) c.put.ensures
+    said (d.digits ∙ spelt c.ranges.n.fits d.len) c.put.ensures

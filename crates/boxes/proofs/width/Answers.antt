@@ -3,18 +3,11 @@ use mir.Facts.{to_z-of_z}
 use mir.Syntax.{w32}
 use mir.Val.{SFits}
 use borrow.Author.Rules.{rules}
-use Rattle.boxes.proofs.width.Statement.{statement}
-use Rattle.boxes.proofs.width.Tie as tie
+use Rattle.boxes.proofs.width.Goals as goal
 
-extent-requires : tie.Need-extent-requires
-extent-requires c κs = search rules
-
-returns : tie.Need-returns
+pub returns : goal.returns
 returns c =
-    let rect = c.before.before.before.args.rect in
+    let rect = c.args.rect in
     let left : SFits w32 rect.left = search rules in
     let right : SFits w32 rect.right = search rules in
     rw (to_z-of_z left, to_z-of_z right) at c.extent.ensures
-
-pub width_spec : {M : Type 1} → statement M
-width_spec = tie.close (tie.spec extent-requires returns)

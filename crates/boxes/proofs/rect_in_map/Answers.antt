@@ -9,11 +9,10 @@ use mir.Val.{SFits, to_z}
 use borrow.Author.Rules.{rules}
 use Rattle.numbers.proofs.Integers.{widens, widened}
 use Rattle.model.specs.Boxes.{in_map}
-use Rattle.boxes.proofs.rect_in_map.Statement.{statement}
-use Rattle.boxes.proofs.rect_in_map.Tie as tie
+use Rattle.boxes.proofs.rect_in_map.Goals as goal
 
 -- i32 holds the sides
-module _ (c : tie.Start) where
+module _ (c : goal.Start) where
   left : SFits w32 c.args.rect.left
   left = search rules
 
@@ -33,38 +32,14 @@ module _ (c : tie.Start) where
   high : to_z w64 (8 * c.args.height) ≡ pos (8 * c.args.height)
   high = to_z_pos w64 (omega arith)
 
-cast-result : tie.Need-overflow-cast-result
-cast-result c = widens (right c.before.before.before.before.before.before)
+pub overflow_cast-result : goal.overflow_cast-result
+overflow_cast-result c = widens (right c.before.before.before.before.before.before)
 
-mul-result : tie.Need-overflow-mul-result
-mul-result c = search rules
+pub overflow_cast-result-4 : goal.overflow_cast-result-4
+overflow_cast-result-4 c = widens (bottom c.before.before.before.before.before.before.before.before)
 
-cast-result-2 : tie.Need-overflow-cast-result-2
-cast-result-2 c = search rules
-
-cast-result-3 : tie.Need-overflow-cast-result-3
-cast-result-3 c = widens (bottom c.before.before.before.before.before.before.before.before)
-
-mul-result-2 : tie.Need-overflow-mul-result-2
-mul-result-2 c = search rules
-
-cast-result-4 : tie.Need-overflow-cast-result-4
-cast-result-4 c = search rules
-
-returns : tie.Need-returns
+pub returns : goal.returns
 unfolding in_map
 returns c =
     let s = c.before.before.before.before.before.before.before.before in
     rw (to_z-of_z (left s), to_z-of_z (top s), widened (right s), widened (bottom s), wide s, high s)
-
-pub rect_in_map_spec : {M : Type 1} → statement M
-rect_in_map_spec =
-    tie.close
-    (tie.spec
-    cast-result
-    mul-result
-    cast-result-2
-    cast-result-3
-    mul-result-2
-    cast-result-4
-    returns)
