@@ -12,12 +12,6 @@ use Rattle.boxes.proofs.building_geometry.Goals as goal
 abbrev Held : ℤ → ℤ → ℤ → ℤ → Type 0
 Held l r a z = SFits w32 l × SFits w32 r × SFits w32 a × SFits w32 z
 
-held_x : (c : goal.In-Sides) → let s = c.x-1.given.0 in Held s.0 s.1.0 s.1.1.0 s.1.1.1.0
-held_x c = search rules
-
-held_y : (c : goal.In-Sides-y) → let s = c.y-1.given.0 in Held s.0 s.1.0 s.1.1.0 s.1.1.1.0
-held_y c = search (rules, c.known_told-in-Sides-y-1.given)
-
 pub returns-in_default : goal.returns-in_default
 returns-in_default c =
     sym (overflow_x c.args.b c.building_axis-x.ensures c.in_default.is)
@@ -28,9 +22,7 @@ returns-in_default-y c =
 
 pub returns : goal.returns
 returns c =
-    let y = c.before in
-    let x = y.before.before.before.before in
-    let i = held_x y.before.before.before in
-    let j = held_y c in
+    let i : Held c.in-Sides.left c.in-Sides.right c.in-Sides.low c.in-Sides.high = search rules in
+    let j : Held c.in-Sides-y.top c.in-Sides-y.bottom c.in-Sides-y.upper c.in-Sides-y.lower = search rules in
     rw (to_z-of_z i.0, to_z-of_z i.1, to_z-of_z i.2, to_z-of_z i.3, to_z-of_z j.0, to_z-of_z j.1, to_z-of_z j.2, to_z-of_z j.3)
-    (sym (both_fit x.args.b x.building_axis-x.ensures x.in-Sides.is y.building_axis-y.ensures y.in-Sides-y.is))
+    (sym (both_fit c.args.b c.building_axis-x.ensures c.in-Sides.is c.building_axis-y.ensures c.in-Sides-y.is))

@@ -5,9 +5,10 @@ use mir.Facts.{to_z-of_z}
 use borrow.Author.Rules.{rules}
 use Rattle.numbers.specs.Integers.{Biased}
 use Rattle.numbers.proofs.Integers.{abs_nat, sub_nat, apart}
+use Rattle.boxes.proofs.extent.Goals.{After-biased-to}
 use Rattle.boxes.proofs.extent.Goals as goal
 
-carried : (c : goal.After-biased-to) → let a = c.args in Biased a.low c.biased-from.result × Biased a.high c.biased-to.result
+carried : (c : After-biased-to) → let a = c.args in Biased a.low c.biased-from.result × Biased a.high c.biased-to.result
 carried c =
     let fits = c.ranges in
     (rw (to_z-of_z fits.low) at c.biased-from.ensures, rw (to_z-of_z fits.high) at c.biased-to.ensures)

@@ -9,10 +9,11 @@ use mir.Val.{SFits, to_z}
 use borrow.Author.Rules.{rules}
 use Rattle.numbers.proofs.Integers.{widens, widened}
 use Rattle.model.specs.Boxes.{in_map}
+use Rattle.boxes.proofs.rect_in_map.Goals.{Start}
 use Rattle.boxes.proofs.rect_in_map.Goals as goal
 
 -- i32 holds the sides
-module _ (c : goal.Start) where
+module _ (c : Start) where
   left : SFits w32 c.args.rect.left
   left = search rules
 
@@ -33,7 +34,7 @@ module _ (c : goal.Start) where
   high = to_z_pos w64 (omega arith)
 
 pub overflow_cast-result : goal.overflow_cast-result
-overflow_cast-result c = widens (right c.before.before.before.before.before.before)
+overflow_cast-result c = widens (right c.before.before.before.before.before.before.before)
 
 pub overflow_cast-result-4 : goal.overflow_cast-result-4
 overflow_cast-result-4 c = widens (bottom c.before.before.before.before.before.before.before.before)

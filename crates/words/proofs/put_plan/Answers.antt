@@ -10,10 +10,6 @@ use Rattle.model.specs.Words.{building_words, written}
 use Rattle.words.proofs.Writing.{written_length, group_next, eight_each}
 use Rattle.words.proofs.put_plan.Goals as goal
 
--- the array has 32 places
-thirty_two : (c : goal.Start) → length c.args.t3 ≡ 32
-thirty_two c = c.well-formed.1.1.0.1.0.1
-
 pub loop-i-init : goal.loop-i-init
 unfolding written flat_map
 loop-i-init c = (omega arith, refl)
@@ -48,9 +44,9 @@ loop-i-preserved c =
     let a = x.args in
     let i = x.loop-i.i in
     let k = a.at + 8 * i in
-    let long : i < length a.t3 = omega (arith, thirty_two x.before.before) in
-    let e : k ≡ a.at + length (flat_map building_words (take i a.t3)) = omega (arith, eight_each (take i a.t3), length-take i a.t3) in
-    (omega arith, c.put_words.ensures ∙ (ap (λ (ws : List ℕ). written k ws x.loop-i.out) c.building_words.ensures ∙ (ap (written k _) x.loop-i.invariant.1 ∙ group_next building_words a.at k i a.t3 _ a.out.now long e)))
+    let long : i < length a.buildings = omega (arith, c.well_formed.1.1.0.1.0.1) in
+    let e : k ≡ a.at + length (flat_map building_words (take i a.buildings)) = omega (arith, eight_each (take i a.buildings), length-take i a.buildings) in
+    (omega arith, c.put_words.ensures ∙ (ap (λ (ws : List ℕ). written k ws x.loop-i.out) c.building_words.ensures ∙ (ap (written k _) x.loop-i.invariant.1 ∙ group_next building_words a.at k i a.buildings _ a.out.now long e)))
 
 pub shape_of-out : goal.shape_of-out
 shape_of-out c = rw c.loop-i.invariant.1 (written_length _ _ _)
@@ -59,5 +55,5 @@ pub returns : goal.returns
 returns c =
     let x = c.before in
     let a = x.args in
-    let all : take x.loop-i.i a.t3 ≡ a.t3 = take_all x.loop-i.i a.t3 (omega (arith, thirty_two x.before.before)) in
+    let all : take x.loop-i.i a.buildings ≡ a.buildings = take_all x.loop-i.i a.buildings (omega (arith, c.well_formed.1.1.0.1.0.1)) in
     x.loop-i.invariant.1 ∙ ap (λ (l : List WallBuilding). written a.at (flat_map building_words l) a.out.now) all

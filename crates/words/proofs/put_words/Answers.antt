@@ -34,7 +34,7 @@ pub loop-i-preserved : goal.loop-i-preserved
 loop-i-preserved c =
     let a = c.args in
     let i = c.loop-i.i in
-    (omega arith, c.put.ensures ∙ (ap (λ (l : List ℕ). set l (a.at + i) (get_or a.t3 i 0)) c.loop-i.invariant.1 ∙ word_next a.at i a.t3 a.out.now 0 (omega arith)))
+    (omega arith, c.put.ensures ∙ (ap (λ (l : List ℕ). set l (a.at + i) (get_or a.words i 0)) c.loop-i.invariant.1 ∙ word_next a.at i a.words a.out.now 0 (omega arith)))
 
 pub shape_of-out : goal.shape_of-out
 shape_of-out c = rw c.loop-i.invariant.1 (written_length _ _ _)
@@ -43,4 +43,4 @@ pub returns : goal.returns
 returns c =
     let a = c.args in
     let e : c.loop-i.i ≡ a.n = omega arith in
-    c.loop-i.invariant.1 ∙ ap (λ (k : ℕ). written a.at (take k a.t3) a.out.now) e
+    c.loop-i.invariant.1 ∙ ap (λ (k : ℕ). written a.at (take k a.words) a.out.now) e

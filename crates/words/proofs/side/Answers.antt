@@ -4,9 +4,10 @@ use Rattle.words.proofs.Writing.{bits_above, bits_below}
 use borrow.Author.Rules.{rules}
 use mir.Facts.{to_z-of_z}
 use Rattle.numbers.specs.Integers.{Biased}
+use Rattle.words.proofs.side.Goals.{After-biased-raised}
 use Rattle.words.proofs.side.Goals as goal
 
-carried : (c : goal.After-biased-raised) → Biased c.args.x c.biased-raised.result
+carried : (c : After-biased-raised) → Biased c.args.x c.biased-raised.result
 carried c = rw (to_z-of_z c.ranges.x) at c.biased-raised.ensures
 
 pub returns-then-raised-lt2147483648 : goal.returns-then-raised-lt2147483648
