@@ -1,5 +1,6 @@
 // The issues of one building, as words behind those that a lent area holds: of the map's edge and the terrain, of the obstacles, of the other buildings.
 #![tactic(auto)]
+
 ghost use Rattle.std.specs.Prelude.{◌≡◌, not, ◌&&◌, ◌+◌, ◌*◌, ◌≤◌, ◌<◌, length};
 ghost use Rattle.model.specs.declared.Geometry.TheVariants.{Fits};
 ghost use Rattle.model.specs.Boxes.{in_map, footprint_box};

@@ -1,5 +1,6 @@
 // When the ground is refused: 1 to 7, in the table's order. One stage a function.
 #![tactic(auto)]
+
 ghost use Rattle.std.specs.Prelude.{◌≡◌, ◌*◌, ◌≤◌, length};
 ghost use Rattle.model.specs.Refusal.{given, first, hollow, size_lines, faulty, cell_lines, obstacle_lines};
 ghost use Rattle.query_ground.specs.Searches.{FirstFault, hollow_lines};

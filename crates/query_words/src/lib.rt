@@ -1,5 +1,6 @@
 // A query from words, for hosts in other languages.
 #![tactic(auto)]
+
 ghost use Rattle.std.specs.Prelude.{◌≡◌, ◌+◌, ◌*◌, ◌<◌};
 ghost use Rattle.model.specs.Lists.{table};
 ghost use Rattle.model.specs.Words.{word_at, point_at, extents_at, rect_at, building_at, query_of};

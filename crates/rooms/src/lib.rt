@@ -1,5 +1,6 @@
 // 17: the first lent area that is too small. It runs after 1 to 16, so that the window and the counts are within their caps.
 #![tactic(auto)]
+
 ghost use Rattle.std.specs.Prelude.{◌≡◌, ◌≤◌, length, take};
 ghost use Rattle.model.specs.Ground.{Ground, obstacles};
 ghost use Rattle.model.specs.Refusal.{given, first};

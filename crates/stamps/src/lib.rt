@@ -1,6 +1,7 @@
 // Blockers stamped into a difference grid of the window's centers: a blocker is widened by the mover first, and then clipped to the window. The map's
 // edge is stamped too, so that a center where the mover's box leaves the map is covered like any other that is blocked.
 #![tactic(auto)]
+
 ghost use Rattle.std.specs.Prelude.{◌≡◌, ◌+◌, ◌*◌, ◌^◌, ◌<◌, ◌≤◌, length};
 ghost use Rattle.model.specs.declared.PixelRect.{PixelRect};
 ghost use Rattle.model.specs.Refusal.{caps};

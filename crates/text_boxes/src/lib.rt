@@ -1,5 +1,6 @@
 // Signed numbers and boxes as text in a buffer that the caller lends. Each function puts its text behind the first `at` bytes and answers where the text ends.
 #![tactic(auto)]
+
 ghost use Rattle.std.specs.Prelude.{◌≡◌, ◌++◌, nat_abs};
 ghost use Rattle.model.specs.Report.{spaced, box_text};
 ghost use Rattle.text.specs.Writing.{Fits, Wrote};
