@@ -1,6 +1,7 @@
 // How many blockers stop a mover at each center of the window: those of the ground, which are the map's edge, the unwalkable cells and the obstacles,
 // in one grid, and the plan's collision boxes in another.
 #![tactic(auto)]
+
 ghost use Rattle.std.specs.Prelude.{map, ◌*◌, ◌≤◌, length};
 ghost use Rattle.model.specs.Boxes.{collision_box};
 ghost use Rattle.model.specs.Ground.{ground, rects, built};

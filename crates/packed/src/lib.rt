@@ -1,5 +1,6 @@
 // Reading a packed query into areas 0 and 1 and a record.
 #![tactic(auto)]
+
 ghost use Rattle.std.specs.Prelude.{◌≡◌, List, ◌++◌, ℕ, ◌*◌, ◌≤◌, ◌<◌, length};
 ghost use Rattle.model.specs.Refusal.{given, first};
 ghost use Rattle.model.specs.Areas.{room_lines};

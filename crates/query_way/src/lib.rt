@@ -1,5 +1,6 @@
 // When the mover, the number of buildings, the window or an end is refused: 8 to 13, in the table's order. One stage a function.
 #![tactic(auto)]
+
 ghost use Rattle.std.specs.Prelude.{◌≡◌, pos};
 ghost use Rattle.model.specs.Boxes.{holds};
 ghost use Rattle.model.specs.Refusal.{given, first, wide, mover_lines, count_lines, window_lines, end_lines};

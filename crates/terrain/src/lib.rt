@@ -1,6 +1,7 @@
 // The unwalkable cells, stamped into a difference grid of the window's centers: only those that the mover can reach from the window are looked at, and a
 // run of them in one row is stamped as one rectangle.
 #![tactic(auto)]
+
 ghost use Rattle.std.specs.Prelude.{◌≡◌, ◌+◌, ◌*◌, ◌^◌, ◌<◌, ◌≤◌, length};
 ghost use Rattle.model.specs.Refusal.{caps};
 ghost use Rattle.stamps.specs.Stamps.{Framed, Adds, stops};

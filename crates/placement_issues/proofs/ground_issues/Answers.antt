@@ -15,25 +15,11 @@ use Rattle.issue_words.specs.Issues.{noted}
 use Rattle.placement_issues.proofs.ground_issues.Goals.{After-out_of_map-out, Start}
 use Rattle.placement_issues.proofs.ground_issues.Goals as goal
 
--- the two issues, each where its test holds
-abbrev out : Start → List Issue
-out s = noted (not (in_map s.args.width s.args.height (footprint_box s.args.b) && in_map s.args.width s.args.height (collision_box s.args.b))) OutOfMap
-
-abbrev bad : Start → List Issue
-bad s = noted (in_map s.args.width s.args.height (footprint_box s.args.b) && non_empty (bad_under s.args.width s.args.cells.now s.args.b)) UnbuildableTerrain
-
-room : (s : Start) → s.args.at + (length (out s) + length (bad s)) ≤ length s.args.issues.now
-room s = omega (arith, s.requires.b_in_bounds, words_length s.args.building (out s) (bad s))
-
--- the first test is of the building's boxes
-out_is : (c : After-out_of_map-out) → c.out_of_map-out.result ≡ not (in_map c.args.width c.args.height (footprint_box c.args.b) && in_map c.args.width c.args.height (collision_box c.args.b))
-out_is c =
-    c.out_of_map-out.ensures ∙ ap (λ (g : BuildingGeometry). not (in_map c.args.width c.args.height g.footprint && in_map c.args.width c.args.height g.collision)) c.requires.building_lt_buildings.1.1
-
 pub put_if-next-requires : goal.put_if-next-requires
 put_if-next-requires c =
-    let s = c.before.before.before.before in
-    (s.requires.building_lt_buildings.0, (omega arith, rw (out_is c.before) (omega (arith, room s))))
+    let room : c.args.at + (length ((noted (not (in_map c.args.width c.args.height (footprint_box c.args.b) && in_map c.args.width c.args.height (collision_box c.args.b))) OutOfMap)) + length ((noted (in_map c.args.width c.args.height (footprint_box c.args.b) && non_empty (bad_under c.args.width c.args.cells.now c.args.b)) UnbuildableTerrain))) ≤ length c.args.issues.now = omega (arith, c.requires.b_in_bounds, words_length c.args.building ((noted (not (in_map c.args.width c.args.height (footprint_box c.args.b) && in_map c.args.width c.args.height (collision_box c.args.b))) OutOfMap)) ((noted (in_map c.args.width c.args.height (footprint_box c.args.b) && non_empty (bad_under c.args.width c.args.cells.now c.args.b)) UnbuildableTerrain))) in
+    let out_is : c.out_of_map-out.result ≡ not (in_map c.args.width c.args.height (footprint_box c.args.b) && in_map c.args.width c.args.height (collision_box c.args.b)) = c.out_of_map-out.ensures ∙ ap (λ (g : BuildingGeometry). not (in_map c.args.width c.args.height g.footprint && in_map c.args.width c.args.height g.collision)) c.requires.building_lt_buildings.1.1 in
+    (c.requires.building_lt_buildings.0, (omega arith, rw (out_is) (omega (arith, room))))
 
 pub on_bad_terrain-bad-requires : goal.on_bad_terrain-bad-requires
 on_bad_terrain-bad-requires c =
@@ -41,12 +27,12 @@ on_bad_terrain-bad-requires c =
 
 pub put_if-requires : goal.put_if-requires
 put_if-requires c =
-    let p = c.before.before.before.before in
-    let s = p.before.before.before.before.before in
-    let e = p.put_if-next.ensures in
-    (s.requires.building_lt_buildings.0, (omega arith, rw c.on_bad_terrain-bad.ensures (omega (arith, room s, (rw (out_is p.before.before) at e).count, put_length e, length-map (out s) (issue_word s.args.building)))))
+    let room : c.args.at + (length ((noted (not (in_map c.args.width c.args.height (footprint_box c.args.b) && in_map c.args.width c.args.height (collision_box c.args.b))) OutOfMap)) + length ((noted (in_map c.args.width c.args.height (footprint_box c.args.b) && non_empty (bad_under c.args.width c.args.cells.now c.args.b)) UnbuildableTerrain))) ≤ length c.args.issues.now = omega (arith, c.requires.b_in_bounds, words_length c.args.building ((noted (not (in_map c.args.width c.args.height (footprint_box c.args.b) && in_map c.args.width c.args.height (collision_box c.args.b))) OutOfMap)) ((noted (in_map c.args.width c.args.height (footprint_box c.args.b) && non_empty (bad_under c.args.width c.args.cells.now c.args.b)) UnbuildableTerrain))) in
+    let out_is : c.out_of_map-out.result ≡ not (in_map c.args.width c.args.height (footprint_box c.args.b) && in_map c.args.width c.args.height (collision_box c.args.b)) = c.out_of_map-out.ensures ∙ ap (λ (g : BuildingGeometry). not (in_map c.args.width c.args.height g.footprint && in_map c.args.width c.args.height g.collision)) c.requires.building_lt_buildings.1.1 in
+    let e = c.put_if-next.ensures in
+    (c.requires.building_lt_buildings.0, (omega arith, rw c.on_bad_terrain-bad.ensures (omega (arith, room, (rw (out_is) at e).count, put_length e, length-map ((noted (not (in_map c.args.width c.args.height (footprint_box c.args.b) && in_map c.args.width c.args.height (collision_box c.args.b))) OutOfMap)) (issue_word c.args.building)))))
 
 pub returns : goal.returns
 returns c =
-    let q = c.before.before.before.before.before.before in
-    then (rw (out_is q.before.before) at q.put_if-next.ensures) (rw c.on_bad_terrain-bad.ensures at c.put_if.ensures)
+    let out_is : c.out_of_map-out.result ≡ not (in_map c.args.width c.args.height (footprint_box c.args.b) && in_map c.args.width c.args.height (collision_box c.args.b)) = c.out_of_map-out.ensures ∙ ap (λ (g : BuildingGeometry). not (in_map c.args.width c.args.height g.footprint && in_map c.args.width c.args.height g.collision)) c.requires.building_lt_buildings.1.1 in
+    then (rw (out_is) at c.put_if-next.ensures) (rw c.on_bad_terrain-bad.ensures at c.put_if.ensures)

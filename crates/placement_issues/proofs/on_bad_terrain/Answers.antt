@@ -8,18 +8,17 @@ use Rattle.footprints.proofs.Cells.{in_map_covers}
 use Rattle.placement_issues.proofs.on_bad_terrain.Goals.{After-rect_in_map}
 use Rattle.placement_issues.proofs.on_bad_terrain.Goals as goal
 
--- the test is of the building's footprint
-tested : (c : After-rect_in_map) → in_map c.args.width c.args.height (footprint_box c.args.b) ≡ c.rect_in_map.result
-tested c =
-    sym (c.rect_in_map.ensures ∙ ap (in_map c.args.width c.args.height) c.requires.1)
-
 pub footprint_buildable-requires : goal.footprint_buildable-requires
 footprint_buildable-requires c =
-    in_map_covers c.args.width c.args.height c.args.cells.now c.args.b (tested c.before ∙ c.if-rect_in_map.true) c.requires.0
+    let tested : in_map c.args.width c.args.height (footprint_box c.args.b) ≡ c.rect_in_map.result = sym (c.rect_in_map.ensures ∙ ap (in_map c.args.width c.args.height) c.requires.1) in
+    in_map_covers c.args.width c.args.height c.args.cells.now c.args.b (tested ∙ c.if-rect_in_map.true) c.requires.0
 
 pub returns-then-rect_in_map : goal.returns-then-rect_in_map
 returns-then-rect_in_map c =
-    rw (tested c.before.before ∙ c.if-rect_in_map.true, c.footprint_buildable.ensures) (not-not (non_empty (bad_under c.args.width c.args.cells.now c.args.b)))
+    let tested : in_map c.args.width c.args.height (footprint_box c.args.b) ≡ c.rect_in_map.result = sym (c.rect_in_map.ensures ∙ ap (in_map c.args.width c.args.height) c.requires.1) in
+    rw (tested ∙ c.if-rect_in_map.true, c.footprint_buildable.ensures) (not-not (non_empty (bad_under c.args.width c.args.cells.now c.args.b)))
 
 pub returns : goal.returns
-returns c = rw (tested c.before ∙ c.if-rect_in_map.false)
+returns c =
+    let tested : in_map c.args.width c.args.height (footprint_box c.args.b) ≡ c.rect_in_map.result = sym (c.rect_in_map.ensures ∙ ap (in_map c.args.width c.args.height) c.requires.1) in
+    rw (tested ∙ c.if-rect_in_map.false)

@@ -17,19 +17,6 @@ use Rattle.placement_issues.proofs.Plans.{built_length, built_at, fits_at}
 use Rattle.placement_issues.proofs.overlaps_buildings.Goals.{After-intersects, At-loop-i, Start}
 use Rattle.placement_issues.proofs.overlaps_buildings.Goals as goal
 
--- the plan has 32 places
-long : (c : Start) → length c.args.plan.buildings ≡ 32
-long c = simp length-map at c.well_formed.0.1.1.0.1.0.1
-
--- what the test says of building i
-found_is : (c : After-intersects) → c.intersects.result ≡ meets c.args.footprint (footprint_box (get_or (built c.args.plan) c.loop-i.i no_building))
-found_is c =
-    let s = c.before.before.before in
-    let f = s.args.footprint in
-    c.intersects.ensures
-    ∙ (ap (λ (g : BuildingGeometry). meets f g.footprint) c.boxes_of-boxes.ensures
-    ∙ sym (ap (λ (b : WallBuilding). meets f (footprint_box b)) (built_at s.args.plan (long s) s.requires.building_lt_buildings.1 c.loop-i.i (omega arith))))
-
 pub loop-i-init : goal.loop-i-init
 loop-i-init c =
     (omega arith, at_first c.args.building OverlapsBuilding (other_met_by c.args.building c.args.footprint) (built c.args.plan) c.args.issues.now c.args.at c.requires.plan_in_bounds)
@@ -42,16 +29,20 @@ bounds-plan-i c = omega (arith, c.requires.building_lt_buildings.1.count)
 
 pub boxes_of-boxes-requires : goal.boxes_of-boxes-requires
 boxes_of-boxes-requires c =
-    let s = c.before.before.before in
-    fits_at s.args.plan (long s) s.requires.building_lt_buildings.1 c.loop-i.i (omega arith)
+    let long : length c.args.plan.buildings ≡ 32 = c.well_formed.0.1.1.0.1.0.1 in
+    fits_at c.args.plan (long) c.requires.building_lt_buildings.1 c.loop-i.i (omega arith)
 
 pub put_if-next-requires : goal.put_if-next-requires
 put_if-next-requires c =
-    let s = c.before.before.before in (
-      s.requires.building_lt_buildings.0,
+    let long : length c.args.plan.buildings ≡ 32 = c.well_formed.0.1.1.0.1.0.1 in
+    let found_is : c.intersects.result ≡ meets c.args.footprint (footprint_box (get_or (built c.args.plan) c.loop-i.i no_building)) = (let f = c.args.footprint in
+    c.intersects.ensures
+    ∙ (ap (λ (g : BuildingGeometry). meets f g.footprint) c.boxes_of-boxes.ensures
+    ∙ sym (ap (λ (b : WallBuilding). meets f (footprint_box b)) (built_at c.args.plan (long) c.requires.building_lt_buildings.1 c.loop-i.i (omega arith))))) in (
+      c.requires.building_lt_buildings.0,
       (
-        omega (arith, s.requires.building_lt_buildings.1.count),
-        rw (found_is c.before) (room_here s.args.building OverlapsBuilding (other_met_by s.args.building s.args.footprint) (built s.args.plan) s.args.issues.now s.args.at no_building (omega (arith, built_length s.args.plan (long s) s.requires.building_lt_buildings.1)) c.loop-i.invariant.1 s.requires.plan_in_bounds),
+        omega (arith, c.requires.building_lt_buildings.1.count),
+        rw (found_is) (room_here c.args.building OverlapsBuilding (other_met_by c.args.building c.args.footprint) (built c.args.plan) c.args.issues.now c.args.at no_building (omega (arith, built_length c.args.plan (long) c.requires.building_lt_buildings.1)) c.loop-i.invariant.1 c.requires.plan_in_bounds),
       ),
     )
 
@@ -63,15 +54,17 @@ loop-i-smaller c = omega arith
 
 pub loop-i-preserved : goal.loop-i-preserved
 loop-i-preserved c =
-    let p = c.before.before in
-    let l : At-loop-i = p.before.before.before.before.before.before in
-    let s = l.before.before in
-    (omega arith, after_turn s.args.building OverlapsBuilding (other_met_by s.args.building s.args.footprint) (built s.args.plan) s.args.issues.now s.args.at no_building (omega (arith, built_length s.args.plan (long s) s.requires.building_lt_buildings.1)) l.loop-i.invariant.1 (rw (found_is p.before.before) at p.put_if-next.ensures))
+    let long : length c.args.plan.buildings ≡ 32 = c.well_formed.0.1.1.0.1.0.1 in
+    let found_is : c.intersects.result ≡ meets c.args.footprint (footprint_box (get_or (built c.args.plan) c.loop-i.i no_building)) = (let f = c.args.footprint in
+    c.intersects.ensures
+    ∙ (ap (λ (g : BuildingGeometry). meets f g.footprint) c.boxes_of-boxes.ensures
+    ∙ sym (ap (λ (b : WallBuilding). meets f (footprint_box b)) (built_at c.args.plan (long) c.requires.building_lt_buildings.1 c.loop-i.i (omega arith))))) in
+    (omega arith, after_turn c.args.building OverlapsBuilding (other_met_by c.args.building c.args.footprint) (built c.args.plan) c.args.issues.now c.args.at no_building (omega (arith, built_length c.args.plan (long) c.requires.building_lt_buildings.1)) c.loop-i.invariant.1 (rw (found_is) at c.put_if-next.ensures))
 
 pub shape_of-issues : goal.shape_of-issues
 shape_of-issues c = put_length c.loop-i.invariant.1
 
 pub returns : goal.returns
 returns c =
-    let s = c.before.before.before in
-    at_last s.args.building OverlapsBuilding (other_met_by s.args.building s.args.footprint) (built s.args.plan) s.args.issues.now s.args.at c.loop-i.i c.loop-i.invariant.1 (omega (arith, built_length s.args.plan (long s) s.requires.building_lt_buildings.1))
+    let long : length c.args.plan.buildings ≡ 32 = c.well_formed.0.1.1.0.1.0.1 in
+    at_last c.args.building OverlapsBuilding (other_met_by c.args.building c.args.footprint) (built c.args.plan) c.args.issues.now c.args.at c.loop-i.i c.loop-i.invariant.1 (omega (arith, built_length c.args.plan (long) c.requires.building_lt_buildings.1))

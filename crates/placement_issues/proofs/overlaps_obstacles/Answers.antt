@@ -15,14 +15,6 @@ use Rattle.placement_issues.proofs.Written.{Written, at_first, room_here, after_
 use Rattle.placement_issues.proofs.overlaps_obstacles.Goals.{After-intersects-found, At-loop-i, In-loop-i}
 use Rattle.placement_issues.proofs.overlaps_obstacles.Goals as goal
 
--- obstacle i is one of the obstacles
-passes : (c : In-loop-i) → c.loop-i.i < length (rects c.args.words.now)
-passes c = omega (arith, rects_length c.args.words.now)
-
--- what the test says of it
-found_is : (c : After-intersects-found) → c.intersects-found.result ≡ meets c.args.footprint (get_or (rects c.args.words.now) c.loop-i.i no_rect)
-found_is c = c.intersects-found.ensures ∙ ap (meets c.args.footprint) c.obstacle_at-obstacle.ensures
-
 pub loop-i-init : goal.loop-i-init
 loop-i-init c =
     (omega arith, at_first c.args.building OverlapsObstacle (met_by c.args.footprint) (rects c.args.words.now) c.args.issues.now c.args.at c.requires.words_in_bounds)
@@ -32,11 +24,13 @@ obstacle_at-obstacle-requires c = omega arith
 
 pub put_if-next-requires : goal.put_if-next-requires
 put_if-next-requires c =
-    let h = passes c.before.before.before in (
+    let passes : c.loop-i.i < length (rects c.args.words.now) = omega (arith, rects_length c.args.words.now) in
+    let found_is : c.intersects-found.result ≡ meets c.args.footprint (get_or (rects c.args.words.now) c.loop-i.i no_rect) = c.intersects-found.ensures ∙ ap (meets c.args.footprint) c.obstacle_at-obstacle.ensures in
+    let h = passes in (
       c.requires.building_lt_buildings.0,
       (
         omega (arith, c.requires.building_lt_buildings.1),
-        rw (found_is c.before) (room_here c.args.building OverlapsObstacle (met_by c.args.footprint) (rects c.args.words.now) c.args.issues.now c.args.at no_rect h c.loop-i.invariant.1 c.requires.words_in_bounds),
+        rw (found_is) (room_here c.args.building OverlapsObstacle (met_by c.args.footprint) (rects c.args.words.now) c.args.issues.now c.args.at no_rect h c.loop-i.invariant.1 c.requires.words_in_bounds),
       ),
     )
 
@@ -48,11 +42,10 @@ loop-i-smaller c = omega arith
 
 pub loop-i-preserved : goal.loop-i-preserved
 loop-i-preserved c =
-    let p = c.before.before in
-    let l : At-loop-i = p.before.before.before.before.before in
-    let s = l.before.before in
-    let h = passes p.before.before.before.before in
-    (omega arith, after_turn s.args.building OverlapsObstacle (met_by s.args.footprint) (rects s.args.words.now) s.args.issues.now s.args.at no_rect h l.loop-i.invariant.1 (rw (found_is p.before.before) at p.put_if-next.ensures))
+    let passes : c.loop-i.i < length (rects c.args.words.now) = omega (arith, rects_length c.args.words.now) in
+    let found_is : c.intersects-found.result ≡ meets c.args.footprint (get_or (rects c.args.words.now) c.loop-i.i no_rect) = c.intersects-found.ensures ∙ ap (meets c.args.footprint) c.obstacle_at-obstacle.ensures in
+    let h = passes in
+    (omega arith, after_turn c.args.building OverlapsObstacle (met_by c.args.footprint) (rects c.args.words.now) c.args.issues.now c.args.at no_rect h c.loop-i.invariant.1 (rw (found_is) at c.put_if-next.ensures))
 
 pub shape_of-issues : goal.shape_of-issues
 shape_of-issues c = put_length c.loop-i.invariant.1

@@ -1,0 +1,6 @@
+-- `packed::no_packed` meets its contract. Assumes nothing.
+use borrow.Author.Rules.{rules}
+use Rattle.packed.proofs.no_packed.Goals as goal
+
+pub returns : goal.returns
+returns c = rw c.no_building-none.ensures

@@ -1,0 +1,6 @@
+-- `terrain::reach` meets its contract. Assumes nothing.
+use borrow.Author.Rules.{rules}
+use Rattle.terrain.proofs.reach.Goals as goal
+
+pub returns : goal.returns
+returns c = rw (c.least.ensures, c.least-to.ensures, c.minus-first.ensures)
