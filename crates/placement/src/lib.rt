@@ -1,5 +1,6 @@
 // Placements: both boxes of each building of a plan, and what is wrong with where it stands, as words in a lent area.
 #![tactic(auto)]
+
 ghost use Rattle.std.specs.Prelude.{◌≡◌, ◌+◌, ◌≤◌, ◌<◌, length};
 ghost use Rattle.model.specs.Ground.{ground, rects, built};
 ghost use Rattle.model.specs.Placement.{issues_of};

@@ -1,5 +1,6 @@
 // When a building is refused: 14 to 16, per building by index.
 #![tactic(auto)]
+
 ghost use Rattle.std.specs.Prelude.{◌≡◌, [], ◌∷◌, ◌≤◌};
 ghost use Rattle.model.specs.Ground.{built};
 ghost use Rattle.model.specs.Refusal.{given, first, building_lines};

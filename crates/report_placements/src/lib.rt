@@ -1,5 +1,6 @@
 // The lines of a report that tell of a building: its placement, and its issues. Each function puts its text behind the first `at` bytes and answers where the text ends.
 #![tactic(auto)]
+
 ghost use mathlib.Core.List.{flat_map};
 ghost use Rattle.model.specs.Report.{placement_line, issue_line};
 ghost use Rattle.text.specs.Writing.{Fits, Wrote};

@@ -28,20 +28,20 @@ loop-i-smaller c = omega arith
 
 pub loop-i-preserved : goal.loop-i-preserved
 loop-i-preserved c =
-    let long : length c.args.plan.buildings ≡ 32 = simp length-map at c.well_formed.1.1.1.0.1.1.0.1.0.1 in
+    let long : length c.args.plan.buildings ≡ 32 = c.well_formed.1.1.1.0.1.1.0.1.0.1 in
     let a = c.args in
     let l = c.loop-i in
     let p = c.stamp_building in (
       omega arith,
-      p.auto.0 ∙ l.invariant.1,
+      p.auto.grid ∙ l.invariant.1,
       adds_next (λ k x y. stop a.frame a.mover (collision_box (get_or a.plan.buildings k building_of_zeros)) x y) 0 l.i (omega arith) l.invariant.2
-          (subst (λ (o : WallBuilding). Adds a.frame.width a.frame.height 1 (stop a.frame a.mover (collision_box o)) l.grid p.new.0)
+          (subst (λ (o : WallBuilding). Adds a.frame.width a.frame.height 1 (stop a.frame a.mover (collision_box o)) l.grid p.new.grid)
           (same_default a.plan.buildings l.i _ building_of_zeros (omega (arith, long))) p.ensures),
     )
 
 pub returns : goal.returns
 returns c =
-    let long : length c.args.plan.buildings ≡ 32 = simp length-map at c.well_formed.1.1.1.0.1.1.0.1.0.1 in
+    let long : length c.args.plan.buildings ≡ 32 = c.well_formed.1.1.1.0.1.1.0.1.0.1 in
     let a = c.args in
     let l = c.loop-i in
     let all : l.i ≡ a.plan.count = omega arith in

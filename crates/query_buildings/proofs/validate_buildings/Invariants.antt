@@ -1,0 +1,16 @@
+-- `query_buildings::validate_buildings` meets its contract: the lines that are left are those from building i on. Assumes nothing.
+use mathlib.Core.Path.{◌≡◌, refl, sym, ◌∙◌}
+use Prim.Native.Nat.{◌≤◌, ◌-◌}
+use native.Mathlib.Omega.{arith}
+use lib.ListN.{length, drop, length-map}
+use borrow.Author.Rules.{rules}
+use Rattle.model.specs.Ground.{built}
+use Rattle.model.specs.Refusal.{first, building_lines}
+use Rattle.query_buildings.proofs.One.{building_passed, building_refused, buildings_done}
+use Rattle.query_buildings.proofs.validate_buildings.Given as goal
+
+abbrev pub invariant-loop-i : goal.invariant-loop-i
+invariant-loop-i l = (l.i ≤ l.plan.count) × (first (building_lines 0 (built l.plan)) ≡ first (building_lines l.i (drop l.i (built l.plan))))
+
+abbrev pub decreases-loop-i : goal.decreases-loop-i
+decreases-loop-i l = l.n - l.i

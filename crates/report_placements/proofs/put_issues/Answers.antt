@@ -1,0 +1,43 @@
+-- `report_placements::put_issues` meets its contract. At turn i the lines of the words from i on are left. Assumes nothing.
+use mathlib.Core.Path.{◌≡◌, refl}
+use Prim.Native.Nat.{◌-◌, ◌≤◌}
+use native.Mathlib.Omega.{arith}
+use lib.ListN.{length}
+use Rattle.model.specs.Report.{issue_line}
+use Rattle.text.proofs.Chain.{started}
+use Rattle.text.proofs.Lines.{LinesLeft, line_fits, line_put, lines_end}
+use Rattle.report_placements.proofs.put_issues.Goals as goal
+
+pub loop-i-init : goal.loop-i-init
+loop-i-init c = (omega arith, refl, started c.args.out.now c.args.at _)
+
+pub offset_bounds-words-i : goal.offset_bounds-words-i
+offset_bounds-words-i c = omega arith
+
+pub bounds-words-i : goal.bounds-words-i
+bounds-words-i c = omega arith
+
+pub put_issue-end-requires : goal.put_issue-end-requires
+put_issue-end-requires c =
+    let x = c.loop-i in
+    omega (arith, line_fits issue_line c.args.words.now x.i x.invariant.2 c.loop-i-test.true c.requires)
+
+pub overflow_add-i : goal.overflow_add-i
+overflow_add-i c = omega arith
+
+pub loop-i-smaller : goal.loop-i-smaller
+loop-i-smaller c = omega arith
+
+pub loop-i-preserved : goal.loop-i-preserved
+loop-i-preserved c =
+    let x = c.loop-i in
+    let words = c.args.words.now in
+    (omega arith, omega arith, line_put issue_line words x.i x.invariant.2 c.loop-i-test.true c.put_issue-end.ensures)
+
+pub shape_of-out : goal.shape_of-out
+shape_of-out c = c.loop-i.invariant.1
+
+pub returns : goal.returns
+returns c =
+    let x = c.loop-i in
+    lines_end issue_line c.args.words.now x.i x.invariant.2 c.loop-i-test.false
