@@ -1,6 +1,7 @@
 // Which centers of the window are blocked, before the plan and after it: a mark for each. Blockers are counted in difference grids, and a center is
 // blocked where a count is above zero.
 #![tactic(auto)]
+
 ghost use Rattle.std.specs.Prelude.{◌≡◌, ◌||◌, ◌+◌, ◌*◌, ◌<◌, ◌≤◌, ltb, pos, nat_abs, length, get_or};
 ghost use Rattle.model.specs.Ground.{ground};
 ghost use Rattle.model.specs.Areas.{cleared};

@@ -1,5 +1,6 @@
 // When a query is refused: 1 to 16, in the table's order. Each stage answers an Outcome, which the next one opens.
 #![tactic(auto)]
+
 ghost use Rattle.std.specs.Prelude.{◌≡◌};
 ghost use Rattle.model.specs.Ground.{ground};
 ghost use Rattle.model.specs.Refusal.{given, first, query_lines};

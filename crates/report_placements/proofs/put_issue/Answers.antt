@@ -20,8 +20,8 @@ put_ending-requires-in-2 c = omega (arith, c.requires, ap length (issue_line_in_
 
 pub put_ending-requires-in_default : goal.put_ending-requires-in_default
 put_ending-requires-in_default c =
-    let last_kind : c.args.word / 2 ^ 25 % 4 ≡ 3 = omega (arith, c.in_default.rest.1, c.in_default.rest.0.1, c.in_default.rest.0.0.1) in
-    omega (arith, c.requires, ap length (issue_line_in_parts c.args.word 3 (last_kind)))
+    let last_kind : c.args.word / 2 ^ 25 % 4 ≡ 3 = omega (arith, c.in_default.in_default-own) in
+    omega (arith, c.requires, ap length (issue_line_in_parts c.args.word 3 last_kind))
 
 pub returns-in-0 : goal.returns-in-0
 returns-in-0 c = said (sym (issue_line_in_parts c.args.word 0 c.in-0.is)) c.put_ending.ensures
@@ -34,5 +34,5 @@ returns-in-2 c = said (sym (issue_line_in_parts c.args.word 2 c.in-2.is)) c.put_
 
 pub returns-in_default : goal.returns-in_default
 returns-in_default c =
-    let last_kind : c.args.word / 2 ^ 25 % 4 ≡ 3 = omega (arith, c.in_default.rest.1, c.in_default.rest.0.1, c.in_default.rest.0.0.1) in
-    said (sym (issue_line_in_parts c.args.word 3 (last_kind))) c.put_ending-in_default.ensures
+    let last_kind : c.args.word / 2 ^ 25 % 4 ≡ 3 = omega (arith, c.in_default.in_default-own) in
+    said (sym (issue_line_in_parts c.args.word 3 last_kind)) c.put_ending-in_default.ensures

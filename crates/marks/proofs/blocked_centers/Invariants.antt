@@ -1,0 +1,17 @@
+-- `marks::blocked_centers` meets its contract. The invariant: the first y rows are marked. Assumes nothing.
+use mathlib.Core.Path.{◌≡◌, refl, ◌∙◌}
+use Prim.Native.Nat.{◌+◌, ◌*◌, ◌-◌, ◌≤◌}
+use native.Mathlib.Omega.{arith}
+use lib.ListN.{length}
+use borrow.Author.Rules.{rules}
+use Rattle.numbers.proofs.Places.{rows_fit}
+use Rattle.marks.specs.Passes.{Part}
+use Rattle.marks.proofs.Filling.{part_none, part_more}
+use Rattle.marks.proofs.blocked_centers.Given as goal
+
+abbrev pub invariant-loop-y : goal.invariant-loop-y
+invariant-loop-y l =
+    (l.y ≤ l.height) × (length l.marks ≡ length l.initial.marks) × Part l.at l.width l.y l.ground l.plan l.initial.marks l.marks
+
+abbrev pub decreases-loop-y : goal.decreases-loop-y
+decreases-loop-y l = l.height - l.y
