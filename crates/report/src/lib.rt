@@ -1,5 +1,6 @@
 // A report as text in a buffer that the caller lends. The inner function puts its text behind the first `at` bytes and answers where the text ends.
 #![tactic(auto)]
+
 ghost use Rattle.std.specs.Prelude.{◌≤◌, length, take};
 ghost use Rattle.model.specs.Report.{placement_lines, report_text, refused_text};
 ghost use Rattle.text.specs.Writing.{Fits, Wrote};

@@ -79,8 +79,8 @@ pub data Reach (free : ℕ → ℕ → Type 0) (s : PixelPosition) : ℕ → Pix
 
 module _ {free : ℕ → ℕ → Type 0} {s : PixelPosition} where
   reach_on : {n : ℕ} {p q : PixelPosition} {ks : List ℕ} {cs : List PixelPosition} → Reach free s n p → Chain free p ks cs q → Reach free s (onto n ks) q
-  reach_on r stay = r
-  reach_on r (step t c) = reach_on (onward r t) c
+  reach_on {n = n} r stay = r
+  reach_on {n = n} r (step {k = k} t c) = reach_on {n = 8 * n + k} (onward r t) c
 
   pub reach : {q : PixelPosition} {ks : List ℕ} {cs : List PixelPosition} → Chain free s ks cs q → Reach free s (code ks) q
   reach c = reach_on begin c

@@ -4,6 +4,7 @@
 // parent is 0 where a center has not been found, and its parent's place and 1 else. Each center enters the queue at
 // most once, so the queue never wraps.
 #![tactic(auto)]
+
 ghost use Rattle.std.specs.Prelude.{◌≡◌, ℕ, ◌+◌, ◌*◌, ◌/◌, ◌%◌, ◌<◌, ◌≤◌, length, get_or};
 ghost use Rattle.model.specs.Steps.{raised};
 ghost use Rattle.marks.specs.Marks.{Unmarked};

@@ -1,0 +1,84 @@
+-- `search::expand_edge` meets its contract. The loop's invariant: the steps below k have been tried. Assumes nothing.
+use mathlib.Core.Path.{◌≡◌, refl, sym, subst, ◌∙◌}
+use Prim.Native.Nat.{ℕ, ◌-◌, ◌*◌, ◌≤◌, ◌<◌}
+use native.Mathlib.Omega.{arith}
+use lib.ListN.{length}
+use borrow.Author.Rules.{rules}
+use Rattle.marks.specs.Marks.{Unmarked}
+use Rattle.search.specs.Search.{Works, Bars, Growing}
+use Rattle.search.proofs.Centers.{place_in, window_small}
+use Rattle.search.proofs.Neighbours.{step_small}
+use Rattle.search.proofs.Corners.{bars_of}
+use Rattle.search.proofs.Trying.{tried_works, works_none, works_then}
+use Rattle.search.proofs.expand_edge.Goals.{At-loop-k}
+use Rattle.search.proofs.expand_edge.Goals as goal
+
+pub around-requires : goal.around-requires
+around-requires c =
+    let pre = c.requires in
+    record { h_bound = (pre.areas.limit, pre.areas.marks_long); p_value = (pre.p_value.0, pre.p_value.1.0, pre.p_value.1.1) }
+
+pub barred-bars-requires : goal.barred-bars-requires
+barred-bars-requires c = λ k l. (c.around.ensures k l).small
+
+pub loop-k-init : goal.loop-k-init
+loop-k-init c = (omega arith, refl, refl, works_none c.requires.head_lt_tail.1)
+
+pub offset_bounds-k : goal.offset_bounds-k
+offset_bounds-k c = omega arith
+
+pub offset_bounds-bars-k : goal.offset_bounds-bars-k
+offset_bounds-bars-k c = omega arith
+
+pub bounds-bars-k : goal.bounds-bars-k
+bounds-bars-k c = omega arith
+
+pub try_edge_step-end-requires : goal.try_edge_step-end-requires
+try_edge_step-end-requires c =
+    let allowed : let a = c.args in Bars (Unmarked a.marks.now a.w a.h) a.w (a.w * a.h) a.p c.barred-bars.result = (let a = c.args in
+    bars_of a.marks.now a.w a.h a.p a.x a.y c.requires.p_value.0 c.requires.p_value.1 c.around.ensures c.barred-bars.ensures) in
+    let growing : Growing c.loop-k.parents c.loop-k.queue c.loop-k.end = (let areas = c.requires.areas in
+    record {
+      limit = omega (arith, areas.limit, areas.parents_long, c.loop-k.invariant.1);
+      as_long = c.loop-k.invariant.2 ∙ areas.queue_long ∙ sym (c.loop-k.invariant.1 ∙ areas.parents_long);
+      counted = c.loop-k.invariant.3.counted;
+    }) in
+    let here : (c.args.w ≤ 1048576) × (c.args.p < length c.loop-k.parents) = (let a = c.args in
+    let free = c.requires.p_value.1 in (
+      (window_small a.w a.h a.x a.y c.requires.areas.limit free.0 free.1).0,
+      omega (arith, c.requires.p_value.0, place_in a.w a.h a.x a.y free.0 free.1, c.requires.areas.parents_long, c.loop-k.invariant.1),
+    )) in
+    let k = c.loop-k.k in
+    record { growing = growing; small = (step_small k (omega arith), (here).0, (here).1); w_bound = λ z. let i = (allowed).inside k (omega arith) z in (i.0, omega (arith, i.1, c.requires.areas.parents_long, c.loop-k.invariant.1)) }
+
+pub overflow_step-k : goal.overflow_step-k
+overflow_step-k c = omega arith
+
+pub loop-k-smaller : goal.loop-k-smaller
+loop-k-smaller c = omega arith
+
+pub loop-k-preserved : goal.loop-k-preserved
+loop-k-preserved c =
+    let allowed : let a = c.args in Bars (Unmarked a.marks.now a.w a.h) a.w (a.w * a.h) a.p c.barred-bars.result = (let a = c.args in
+    bars_of a.marks.now a.w a.h a.p a.x a.y c.requires.p_value.0 c.requires.p_value.1 c.around.ensures c.barred-bars.ensures) in
+    let growing : Growing c.loop-k.parents c.loop-k.queue c.loop-k.end = (let areas = c.requires.areas in
+    record {
+      limit = omega (arith, areas.limit, areas.parents_long, c.loop-k.invariant.1);
+      as_long = c.loop-k.invariant.2 ∙ areas.queue_long ∙ sym (c.loop-k.invariant.1 ∙ areas.parents_long);
+      counted = c.loop-k.invariant.3.counted;
+    }) in
+    let a = c.args in
+    let k = c.loop-k.k in (
+      omega arith,
+      c.try_edge_step-end.auto.parents ∙ c.loop-k.invariant.1,
+      c.try_edge_step-end.auto.queue ∙ c.loop-k.invariant.2,
+      works_then c.loop-k.invariant.3
+          (tried_works c.loop-k.queue c.loop-k.parents c.barred-bars.result (growing) (c.loop-k.invariant.3.kept a.head c.requires.head_lt_tail.0 ∙ c.requires.head_lt_tail.2) (allowed) k (omega arith)
+          (sym (c.loop-k.invariant.1 ∙ c.requires.areas.parents_long)) c.try_edge_step-end.ensures),
+    )
+
+pub returns : goal.returns
+returns c =
+    let a = c.args in
+    let e : c.loop-k.k ≡ 8 = omega arith in
+    subst (λ (k : ℕ). Works (Unmarked a.marks.now a.w a.h) a.w a.head a.queue.now a.parents.now a.tail 0 c.loop-k.queue c.loop-k.parents c.loop-k.end k) e c.loop-k.invariant.3
