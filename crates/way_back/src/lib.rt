@@ -1,5 +1,6 @@
 // The way back: the words of the places that a search's parents pass, from the start to the end.
 #![tactic(auto)]
+
 ghost use Rattle.std.specs.Prelude.{◌≡◌, List, ◌++◌, ℕ, ◌+◌, ◌*◌, ◌^◌, ◌<◌, ◌≤◌, length, take, drop};
 ghost use Rattle.model.specs.Steps.{point_word};
 ghost use Rattle.search.specs.Places.{spot};
