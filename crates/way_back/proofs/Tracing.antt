@@ -1,5 +1,5 @@
 -- Following the parents back: what the two loops over them keep. Assumes nothing.
-use mathlib.Core.Path.{◌≡◌, refl, ap, ◌∙◌}
+use mathlib.Core.Path.{◌≡◌, refl, sym, ap, ◌∙◌}
 use mathlib.Core.List.{List, [], ◌∷◌, ◌++◌, map, map-append, append_assoc, append-nil}
 use Prim.Native.Nat.{ℕ, ◌+◌, ◌-◌, ◌<◌, ◌≤◌}
 use native.Mathlib.Omega.{arith}
@@ -16,14 +16,17 @@ module _ {parents : List ℕ} {s : ℕ} where
   trail_some begin = omega arith
   trail_some (back {q = q} {ps = ps} t n l) = simp length-append (omega arith)
 
+  trail_same : {q r : ℕ} {ps rs : List ℕ} → Trail parents s q ps → Trail parents s r rs → q ≡ r → ps ≡ rs
+  trail_same begin begin e = refl
+  trail_same begin (back t n l) e = absurd (n (sym e))
+  trail_same (back t n l) begin e = absurd (n e)
+  trail_same (back {p = p} {q = q} t n l) (back {p = o} {q = r} u m k) e =
+      let d : p ≡ o = omega (arith, l, k, ap (λ (x : ℕ). get_or parents x 0) e) in
+      rw e (ap (λ (x : List ℕ). x ++ (r ∷ [])) (trail_same t u d))
+
   -- the parents lead back one way
   pub trail_one : {q : ℕ} {ps rs : List ℕ} → Trail parents s q ps → Trail parents s q rs → ps ≡ rs
-  trail_one begin begin = refl
-  trail_one begin (back t n l) = absurd (n refl)
-  trail_one (back t n l) begin = absurd (n refl)
-  trail_one (back {p = p} {q = q} t n l) (back {p = r} u m k) =
-      let e : r ≡ p = omega arith in
-      ap (λ (x : List ℕ). x ++ (q ∷ [])) (trail_one t (rw e at u))
+  trail_one t u = trail_same t u refl
 
 -- a place other than the first has the one before it as its parent
 pub record Back (parents : List ℕ) (s q : ℕ) (qs : List ℕ) : Type 0 where

@@ -11,6 +11,7 @@ use Rattle.way_back.proofs.Tracing.{turned_length}
 
 -- word k of a list that is turned round
 turned_at : (l : List ℕ) (k : ℕ) → k < length l → get_or (turned l) k 0 ≡ get_or l (length l - 1 - k) 0
+turned_at [] k h = elim h [ ]
 turned_at (x ∷ l) k h = split (turned_at l k) (dec_lt k (length l))
   where
     split : (k < length l → get_or (turned l) k 0 ≡ get_or l (length l - 1 - k) 0) → Dec (k < length l) → get_or (turned l ++ (x ∷ [])) k 0 ≡ get_or (x ∷ l) (suc (length l) - 1 - k) 0
