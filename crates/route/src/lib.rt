@@ -2,6 +2,7 @@
 //
 // Places, marks, parents and the queue are those of the search.
 #![tactic(auto)]
+
 ghost use Rattle.std.specs.Prelude.{◌≡◌, true, List, ℕ, ◌*◌, ◌<◌, ◌≤◌, length, replicate};
 ghost use Rattle.model.specs.Areas.{cleared};
 ghost use Rattle.marks.specs.Marks.{Unmarked};
