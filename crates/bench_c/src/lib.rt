@@ -1,5 +1,6 @@
 // The search and the marks for another language to link. Every length and position is tested, so nothing is required.
 #![tactic(auto)]
+
 ghost use Rattle.std.specs.Prelude.{◌≡◌, true, ◌+◌, ◌*◌, ◌≤◌, ◌<◌, length};
 ghost use Rattle.search.specs.Places.{Blank};
 ghost use Rattle.way_back.specs.Ways.{Window};

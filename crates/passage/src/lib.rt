@@ -1,5 +1,6 @@
 // One mover's passage between one pair of ends: the centers are marked, searched after the plan, and before the plan only where that is not settled.
 #![tactic(auto)]
+
 ghost use Rattle.std.specs.Prelude.{◌≡◌, ◌+◌, ◌*◌, ◌≤◌, length, take, drop};
 ghost use Rattle.model.specs.Ground.{ground};
 ghost use Rattle.model.specs.Areas.{cleared};

@@ -1,5 +1,6 @@
 // Whether a list of route words leads from one end to the other, by the marks of a window's centers.
 #![tactic(auto)]
+
 ghost use Rattle.std.specs.Prelude.{◌≡◌, ◌&&◌, [], map, ◌+◌, ◌*◌, ◌≤◌, eqb, length, get_or, take, drop};
 ghost use Rattle.model.specs.Steps.{point_of};
 ghost use Rattle.model.specs.RouteTest as test;
