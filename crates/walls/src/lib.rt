@@ -1,5 +1,6 @@
 // The entry that hosts call: whether the walls of a plan let a mover through. Any caller can lend any slices and ask any query.
 #![tactic(auto)]
+
 ghost use Rattle.std.specs.Prelude.{◌≡◌, ◌++◌, length};
 ghost use Rattle.model.specs.Ground.{ground};
 ghost use Rattle.model.specs.Refusal.{given, first, query_lines};
