@@ -1,5 +1,6 @@
 // The wall checker for another language to link (include/walls_c.h). Every call takes numbers and slices of any length, and nothing is required of them.
 #![tactic(auto)]
+
 ghost use Rattle.std.specs.Prelude.{◌*◌, take};
 ghost use Rattle.model.specs.Ground.{ground};
 ghost use Rattle.model.specs.Check.{Answers};
