@@ -3,7 +3,6 @@
 --     Inv           the loop's invariant: that, at a list as long as d
 --     begins, again, ends     it holds at first, after the four stores of a turn, and at the end it is what the contract says
 --     refuses       what the contract says where there is too little room
---     reaches, less, few     the four stores lie within the list; the measure falls; a slice of rectangles is so short that four times its count fits a `usize`
 use mathlib.Core.Bool.{true, false}
 use mathlib.Core.Path.{◌≡◌, refl, sym, ap, subst, ◌∙◌}
 use mathlib.Core.List.{List, [], ◌∷◌, ◌++◌}
@@ -11,7 +10,7 @@ use Prim.Native.Nat.{ℕ, zero, suc, ◌+◌, ◌-◌, ◌*◌, ◌<◌, ◌≤�
 use native.Mathlib.Nat.{not-suc-le-zero, le_of_suc-le-suc}
 use native.Mathlib.Numerals.{unary_clauses}
 use native.Mathlib.Omega.{arith}
-use borrow.Author.Tests.{ltb-true, ltb-false}
+use borrow.Author.Tests.{lt-ltb, le-ltb}
 use lib.Dec.{ltb}
 use lib.IntN.{ℤ}
 use lib.ListN.{length, set, take, drop, get_or, length-set}
@@ -85,28 +84,18 @@ unfolding words_of
 begins rs d = (omega arith, refl, refl)
 
 -- there is room for every rectangle of the list
-module _ (rs : List PixelRect) (d : List ℤ) (room : ltb (length d) (4 * length rs) ≡ false) where
-  pub reaches : (ws : List ℤ) (i : ℕ) → Inv rs d ws i → ltb i (length rs) ≡ true → 4 * i + 3 < length ws
-  reaches ws i h e = omega (arith, ltb-false (length d) (4 * length rs) room, h.1, ltb-true i (length rs) e)
-
-  pub again : (ws ws' : List ℤ) (i : ℕ) (z : PixelRect) → Inv rs d ws i → ltb i (length rs) ≡ true → ws' ≡ stored ws (4 * i) (get_or rs i z) → Inv rs d ws' (i + 1)
+module _ (rs : List PixelRect) (d : List ℤ) (room : 4 * length rs ≤ length d) where
+  pub again : (ws ws' : List ℤ) (i : ℕ) (z : PixelRect) → Inv rs d ws i → i < length rs → ws' ≡ stored ws (4 * i) (get_or rs i z) → Inv rs d ws' (i + 1)
   again ws ws' i z h e s = (
-    omega (arith, ltb-true i (length rs) e),
+    omega arith,
     ap (λ (l : List ℤ). length l) s ∙ stored_length ws (4 * i) (get_or rs i z) ∙ h.1,
-    s ∙ ap (λ (l : List ℤ). stored l (4 * i) (get_or rs i z)) h.2
-        ∙ fill_more i rs d z (ltb-true i (length rs) e) (omega (arith, ltb-false (length d) (4 * length rs) room, ltb-true i (length rs) e)),
+    s ∙ ap (λ (l : List ℤ). stored l (4 * i) (get_or rs i z)) h.2 ∙ fill_more i rs d z e (omega arith),
   )
 
-  pub ends : (ws : List ℤ) (i : ℕ) → Inv rs d ws i → ltb i (length rs) ≡ false → Copies rs d ws Accepted
+  pub ends : (ws : List ℤ) (i : ℕ) → Inv rs d ws i → length rs ≤ i → Copies rs d ws Accepted
   unfolding first room_lines
-  ends ws i h e = record { outcome = simp room; leaves = h.2 ∙ fill_all i rs d (omega (arith, h.0, ltb-false i (length rs) e)) }
+  ends ws i h e = record { outcome = simp (le-ltb (length d) (4 * length rs) room); leaves = h.2 ∙ fill_all i rs d (omega (arith, h.0)) }
 
-pub refuses : (rs : List PixelRect) (d : List ℤ) (r : Outcome) → ltb (length d) (4 * length rs) ≡ true → r ≡ Refused (RoomTooSmall 1) → Copies rs d d r
+pub refuses : (rs : List PixelRect) (d : List ℤ) (r : Outcome) → length d < 4 * length rs → r ≡ Refused (RoomTooSmall 1) → Copies rs d d r
 unfolding first room_lines
-refuses rs d r e is = rw is (record { outcome = simp e; leaves = refl })
-
-pub less : (n i : ℕ) → ltb i n ≡ true → n - (i + 1) < n - i
-less n i e = omega (arith, ltb-true i n e)
-
-pub few : (n : ℕ) → n * 16 < 2 ^ 63 → n < 4611686018427387904
-few n h = omega (arith, h)
+refuses rs d r e is = rw is (record { outcome = simp (lt-ltb (length d) (4 * length rs) e); leaves = refl })

@@ -1,5 +1,6 @@
 // Obstacles as a list of rectangle records: a call that copies them to area 1, four words each, and one that copies and then checks.
 #![tactic(auto)]
+
 ghost use Rattle.std.specs.Prelude.{◌≡◌, ◌+◌, ◌*◌, ◌<◌, ◌≤◌, length, take};
 ghost use Rattle.model.specs.Ground.{ground};
 ghost use Rattle.model.specs.Check.{Continues};
