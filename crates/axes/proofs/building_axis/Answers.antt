@@ -1,7 +1,6 @@
 -- `axes::building_axis` meets its contract. Assumes nothing.
 use mathlib.Core.Path.{sym}
 use native.Mathlib.Omega.{arith}
-use borrow.Author.Rules.{rules}
 use Rattle.numbers.proofs.Integers.{reads}
 use Rattle.axes.proofs.Sides.{axis_right, axis_high, axis_low, axis_fits}
 use Rattle.axes.proofs.building_axis.Goals as goal

@@ -6,7 +6,6 @@ use lib.IntN.{pos, ◌-ℤ◌}
 use mir.Facts.{to_z-of_z, to_z_pos}
 use mir.Syntax.{w32, w64}
 use mir.Val.{SFits, to_z}
-use borrow.Author.Rules.{rules}
 use Rattle.numbers.proofs.Integers.{ints, sub_nat, apart, fits_wide}
 use Rattle.axes.proofs.lowered.Goals as goal
 

@@ -1,5 +1,4 @@
 -- `bits::five` meets its contract: on either path the five bytes are those at i, and five bytes are their 40 bits. Assumes nothing.
-use borrow.Author.Rules.{rules}
 use mathlib.Core.Path.{refl, ◌∙◌}
 use native.Mathlib.Omega.{arith}
 use Prim.Native.Nat.{◌+◌}

@@ -2,7 +2,6 @@
 use lib.IntN.{◌-ℤ◌}
 use native.Mathlib.Omega.{arith}
 use mir.Facts.{to_z-of_z}
-use borrow.Author.Rules.{rules}
 use Rattle.numbers.specs.Integers.{Biased}
 use Rattle.numbers.proofs.Integers.{abs_nat, sub_nat, apart}
 use Rattle.boxes.proofs.extent.Goals.{After-biased-to}

@@ -9,7 +9,6 @@ use lib.Signed.{mag}
 use mir.Facts.{to_z-of_z}
 use mir.Syntax.{w32}
 use mir.Val.{to_z, of_z}
-use borrow.Author.Rules.{rules}
 use Rattle.model.specs.Check.{no_rect}
 use Rattle.model.proofs.Words.{rects_at}
 use Rattle.boxes.proofs.obstacle_at.Goals as goal

@@ -1,12 +1,11 @@
 -- `footprints::first_bad_cell` meets its contract. The invariant: of the cells in the rows above, none under the building is unfit. Assumes nothing.
 use mathlib.Core.Path.{sym, ap, subst, ◌∙◌}
-use Prim.Native.Nat.{◌+◌, ◌*◌, ◌-◌, ◌≤◌}
+use Prim.Native.Nat.{◌+◌, ◌*◌, ◌≤◌}
 use native.Mathlib.Omega.{arith}
-use borrow.Author.Rules.{rules}
 use lib.ListN.{length}
 use Rattle.numbers.proofs.Places.{rows_fit}
 use Rattle.footprints.specs.Cells.{FirstUnfit, left_cell, right_cell, bottom_cell, head}
-use Rattle.footprints.proofs.Cells.{Clear, rows_above, row_passed, row_stopped, rows_done}
+use Rattle.footprints.proofs.Cells.{rows_above, row_passed, row_stopped, rows_done}
 use Rattle.footprints.proofs.first_bad_cell.Goals.{At-loop-y}
 use Rattle.footprints.proofs.first_bad_cell.Goals as goal
 

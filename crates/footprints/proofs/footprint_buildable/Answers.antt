@@ -1,7 +1,6 @@
 -- `footprints::footprint_buildable` meets its contract: there is a bad cell where there is a first one. Assumes nothing.
 use mathlib.Core.Path.{sym, ap, ◌∙◌}
 use mathlib.Core.Bool.{not}
-use borrow.Author.Rules.{rules}
 use Rattle.footprints.specs.Cells.{bad_under}
 use Rattle.footprints.proofs.Cells.{head_nothing, head_at}
 use Rattle.footprints.proofs.footprint_buildable.Goals as goal

@@ -1,5 +1,4 @@
 -- `grid::add_at` meets its contract. Assumes nothing.
-use Rattle.std.proofs.Common.{rules}
 use Rattle.grid.proofs.add_at.Goals as goal
 
 pub returns : goal.returns

@@ -1,5 +1,5 @@
 -- `grid::add_rect` meets its contract: the four stores are `stamps`. Assumes nothing.
-use Rattle.std.proofs.Common.{◌<◌, refl, inl, inr, arith, rules}
+use Rattle.std.proofs.Common.{◌<◌, refl, inl, inr, arith}
 use Rattle.numbers.proofs.Places.{row_below}
 use Rattle.grid.proofs.Boxes.{stamped, stamps_rest, empty_box}
 use Rattle.grid.proofs.add_rect.Goals as goal

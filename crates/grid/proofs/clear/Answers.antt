@@ -1,5 +1,5 @@
 -- `grid::clear` meets its contract. The invariant: the first i entries are 0, and the rest is as it was. Assumes nothing.
-use Rattle.std.proofs.Common.{◌≡◌, ◌-◌, ◌≤◌, ◌++◌, length, drop, replicate, arith, length-set, rules}
+use Rattle.std.proofs.Common.{◌≡◌, arith, length-set}
 use borrow.Author.Fill.{fill_more}
 use Rattle.grid.proofs.clear.Goals as goal
 

@@ -1,6 +1,5 @@
 -- `grid::clear` meets its contract. The invariant: the first i entries are 0, and the rest is as it was. Assumes nothing.
-use Rattle.std.proofs.Common.{◌≡◌, ◌-◌, ◌≤◌, ◌++◌, length, drop, replicate, arith, length-set, rules}
-use borrow.Author.Fill.{fill_more}
+use Rattle.std.proofs.Common.{◌≡◌, ◌-◌, ◌≤◌, ◌++◌, length, drop, replicate}
 use Rattle.grid.proofs.clear.Given as goal
 
 abbrev pub invariant-loop-i : goal.invariant-loop-i

@@ -1,5 +1,5 @@
 -- `grid::finish` meets its contract: two passes of running sums. Assumes nothing.
-use Rattle.std.proofs.Common.{◌-◌, ◌*◌, ◌∙◌, arith, rules}
+use Rattle.std.proofs.Common.{◌-◌, ◌*◌, ◌∙◌, arith}
 use Rattle.numbers.proofs.Places.{row_below}
 use Rattle.numbers.proofs.Lists.{same_rest}
 use Rattle.grid.proofs.Passes.{two_passes}

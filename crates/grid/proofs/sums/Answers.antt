@@ -1,6 +1,5 @@
 -- `grid::sums` meets its contract. The invariant: the entries before k are summed. Assumes nothing.
-use Rattle.std.proofs.Common.{◌≡◌, ◌-◌, ◌≤◌, length, refl, arith, length-set, rules}
-use Rattle.grid.specs.Grid.{Summed}
+use Rattle.std.proofs.Common.{◌≡◌, refl, arith, length-set}
 use Rattle.grid.proofs.Passes.{none_summed, one_summed}
 use Rattle.grid.proofs.sums.Goals as goal
 

@@ -1,7 +1,6 @@
 -- `grid::sums` meets its contract. The invariant: the entries before k are summed. Assumes nothing.
-use Rattle.std.proofs.Common.{◌≡◌, ◌-◌, ◌≤◌, length, refl, arith, length-set, rules}
+use Rattle.std.proofs.Common.{◌≡◌, ◌-◌, ◌≤◌, length}
 use Rattle.grid.specs.Grid.{Summed}
-use Rattle.grid.proofs.Passes.{none_summed, one_summed}
 use Rattle.grid.proofs.sums.Given as goal
 
 abbrev pub invariant-loop-k : goal.invariant-loop-k

@@ -1,6 +1,5 @@
 -- `issue_words::issue_word` meets its contract: the three parts of a word fit it. Assumes nothing.
 use native.Mathlib.Omega.{arith}
-use borrow.Author.Rules.{rules}
 use Rattle.issue_words.specs.Issues.{issue_of}
 use Rattle.issue_words.proofs.Puts.{kind_small, word_parts}
 use Rattle.issue_words.proofs.issue_word.Goals as goal

@@ -1,6 +1,5 @@
 -- `issue_words::put_if` meets its contract: it writes one word or none. Assumes nothing.
 use native.Mathlib.Omega.{arith}
-use borrow.Author.Rules.{rules}
 use Rattle.issue_words.proofs.Puts.{stored, nothing_put}
 use Rattle.issue_words.proofs.put_if.Goals as goal
 

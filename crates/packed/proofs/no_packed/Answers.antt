@@ -1,5 +1,4 @@
 -- `packed::no_packed` meets its contract. Assumes nothing.
-use borrow.Author.Rules.{rules}
 use Rattle.packed.proofs.no_packed.Goals as goal
 
 pub returns : goal.returns

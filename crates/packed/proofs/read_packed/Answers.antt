@@ -1,8 +1,7 @@
 -- `packed::read_packed` meets its contract. Assumes nothing.
-use borrow.Author.Rules.{rules}
 use mathlib.Core.Path.{refl, sym, ap, ◌∙◌}
 use Rattle.model.specs.Refusal.{given}
-use Rattle.model.specs.Packed.{packed_lines, ReadAreas, read_rooms}
+use Rattle.model.specs.Packed.{packed_lines, read_rooms}
 use Rattle.model.specs.Areas.{room_lines}
 use Rattle.model.proofs.Enough.{read_enough}
 use Rattle.model.proofs.Lines.{none_both}

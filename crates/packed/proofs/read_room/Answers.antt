@@ -1,5 +1,4 @@
 -- `packed::read_room` meets its contract. Assumes nothing.
-use borrow.Author.Rules.{rules}
 use Rattle.model.specs.Packed.{read_rooms}
 use Rattle.packed.proofs.read_room.Goals as goal
 

@@ -1,5 +1,4 @@
 -- `packed::validate_read` meets its contract. Assumes nothing.
-use borrow.Author.Rules.{rules}
 use mathlib.Core.Path.{sym, ◌∙◌}
 use Rattle.model.proofs.Lines.{stage_passed, stage_refused}
 use Rattle.packed.proofs.validate_read.Goals as goal

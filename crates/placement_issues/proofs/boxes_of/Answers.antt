@@ -2,7 +2,6 @@
 use mathlib.Core.Path.{◌≡◌, sym, ◌∙◌}
 use Prim.Native.Nat.{ℕ}
 use native.Mathlib.Omega.{arith}
-use borrow.Author.Rules.{rules}
 use Rattle.model.specs.declared.Geometry.TheVariants.{Fits, Overflow}
 use Rattle.model.specs.Accepted.{boxes_of}
 use Rattle.placement_issues.proofs.boxes_of.Goals as goal

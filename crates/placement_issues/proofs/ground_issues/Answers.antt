@@ -1,14 +1,12 @@
 -- `placement_issues::ground_issues` meets its contract: one part of the words behind the other. Assumes nothing.
 use mathlib.Core.Path.{◌≡◌, ap, ◌∙◌}
 use mathlib.Core.Bool.{not, ◌&&◌}
-use mathlib.Core.List.{List}
 use Prim.Native.Nat.{◌+◌, ◌≤◌}
 use native.Mathlib.Omega.{arith}
-use borrow.Author.Rules.{rules}
 use lib.ListN.{length, length-map}
 use Rattle.model.specs.declared.BuildingGeometry.{BuildingGeometry}
 use Rattle.model.specs.Boxes.{in_map, footprint_box, collision_box}
-use Rattle.model.specs.Placement.{Issue, OutOfMap, UnbuildableTerrain, issue_word}
+use Rattle.model.specs.Placement.{OutOfMap, UnbuildableTerrain, issue_word}
 use Rattle.footprints.specs.Cells.{bad_under, non_empty}
 use Rattle.issue_words.proofs.Puts.{put_length, then, words_length}
 use Rattle.issue_words.specs.Issues.{noted}

@@ -1,7 +1,6 @@
 -- `placement_issues::on_bad_terrain` meets its contract: the terrain is looked at only where the footprint is in the map. Assumes nothing.
 use mathlib.Core.Path.{◌≡◌, sym, ap, ◌∙◌}
 use mathlib.Core.Bool.{not-not}
-use borrow.Author.Rules.{rules}
 use Rattle.model.specs.Boxes.{in_map, footprint_box}
 use Rattle.footprints.specs.Cells.{bad_under, non_empty}
 use Rattle.footprints.proofs.Cells.{in_map_covers}

@@ -1,5 +1,4 @@
 -- `placement_issues::out_of_map` meets its contract. Assumes nothing.
-use borrow.Author.Rules.{rules}
 use Rattle.placement_issues.proofs.out_of_map.Goals as goal
 
 pub returns : goal.returns

@@ -1,8 +1,7 @@
 -- `placement_issues::overlaps_obstacles` meets its contract. The invariant: the words of the obstacles passed are written. Assumes nothing.
 use mathlib.Core.Path.{◌≡◌, ap, ◌∙◌}
-use Prim.Native.Nat.{◌-◌, ◌≤◌, ◌<◌}
+use Prim.Native.Nat.{◌<◌}
 use native.Mathlib.Omega.{arith}
-use borrow.Author.Rules.{rules}
 use lib.ListN.{length, get_or}
 use Rattle.model.specs.Boxes.{meets}
 use Rattle.model.specs.Ground.{rects}
@@ -11,7 +10,7 @@ use Rattle.model.specs.Check.{no_rect}
 use Rattle.model.proofs.Lists.{rects_length}
 use Rattle.placement_issues.specs.Words.{met_by}
 use Rattle.issue_words.proofs.Puts.{put_length}
-use Rattle.placement_issues.proofs.Written.{Written, at_first, room_here, after_turn, at_last}
+use Rattle.placement_issues.proofs.Written.{at_first, room_here, after_turn, at_last}
 use Rattle.placement_issues.proofs.overlaps_obstacles.Goals.{After-intersects-found, At-loop-i, In-loop-i}
 use Rattle.placement_issues.proofs.overlaps_obstacles.Goals as goal
 

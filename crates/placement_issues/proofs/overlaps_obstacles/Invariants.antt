@@ -1,17 +1,9 @@
 -- `placement_issues::overlaps_obstacles` meets its contract. The invariant: the words of the obstacles passed are written. Assumes nothing.
-use mathlib.Core.Path.{◌≡◌, ap, ◌∙◌}
-use Prim.Native.Nat.{◌-◌, ◌≤◌, ◌<◌}
-use native.Mathlib.Omega.{arith}
-use borrow.Author.Rules.{rules}
-use lib.ListN.{length, get_or}
-use Rattle.model.specs.Boxes.{meets}
+use Prim.Native.Nat.{◌-◌, ◌≤◌}
 use Rattle.model.specs.Ground.{rects}
 use Rattle.model.specs.Placement.{OverlapsObstacle}
-use Rattle.model.specs.Check.{no_rect}
-use Rattle.model.proofs.Lists.{rects_length}
 use Rattle.placement_issues.specs.Words.{met_by}
-use Rattle.issue_words.proofs.Puts.{put_length}
-use Rattle.placement_issues.proofs.Written.{Written, at_first, room_here, after_turn, at_last}
+use Rattle.placement_issues.proofs.Written.{Written}
 use Rattle.placement_issues.proofs.overlaps_obstacles.Given as goal
 
 abbrev pub invariant-loop-i : goal.invariant-loop-i

@@ -1,12 +1,6 @@
 -- `query_ground::first_fault` meets its contract: no cell that was passed is faulty. Assumes nothing.
-use mathlib.Core.Path.{◌≡◌}
-use mathlib.Core.Bool.{false}
-use Prim.Native.Nat.{ℕ, ◌≤◌, ◌<◌, ◌-◌}
 use native.Mathlib.Omega.{arith}
-use lib.ListN.{length, get_or}
 use borrow.Author.Count.{below_more}
-use borrow.Author.Rules.{rules}
-use Rattle.query_ground.specs.Searches.{is_faulty}
 use Rattle.query_ground.proofs.first_fault.Goals as goal
 
 pub loop-i-init : goal.loop-i-init

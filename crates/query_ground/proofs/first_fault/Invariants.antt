@@ -2,10 +2,7 @@
 use mathlib.Core.Path.{◌≡◌}
 use mathlib.Core.Bool.{false}
 use Prim.Native.Nat.{ℕ, ◌≤◌, ◌<◌, ◌-◌}
-use native.Mathlib.Omega.{arith}
 use lib.ListN.{length, get_or}
-use borrow.Author.Count.{below_more}
-use borrow.Author.Rules.{rules}
 use Rattle.query_ground.specs.Searches.{is_faulty}
 use Rattle.query_ground.proofs.first_fault.Given as goal
 

@@ -1,6 +1,5 @@
 -- `query_ground::validate_cells` meets its contract. Assumes nothing.
 use mathlib.Core.Path.{sym}
-use borrow.Author.Rules.{rules}
 use Rattle.query_ground.proofs.Found.{no_fault, bad_cell, bad_elevation}
 use Rattle.query_ground.proofs.validate_cells.Goals as goal
 

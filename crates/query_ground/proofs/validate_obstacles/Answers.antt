@@ -1,5 +1,4 @@
 -- `query_ground::validate_obstacles` meets its contract. Assumes nothing.
-use borrow.Author.Rules.{rules}
 use borrow.Author.Tests.{eq-eqb, ne_eqb, lt-ltb, le-ltb}
 use Rattle.model.specs.Refusal.{first, obstacle_lines}
 use Rattle.model.proofs.Lists.{rects_length}

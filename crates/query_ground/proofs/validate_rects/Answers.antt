@@ -1,13 +1,10 @@
 -- `query_ground::validate_rects` meets its contract: no obstacle that was passed is hollow. Assumes nothing.
 use mathlib.Core.Path.{◌≡◌, sym, ◌∙◌}
-use mathlib.Core.Bool.{false}
 use mathlib.Core.List.{List}
-use Prim.Native.Nat.{ℕ, ◌≤◌, ◌<◌, ◌-◌}
 use native.Mathlib.Omega.{arith}
 use lib.IntN.{ℤ}
 use lib.ListN.{get_or}
 use borrow.Author.Count.{below_more}
-use borrow.Author.Rules.{rules}
 use Rattle.model.specs.Check.{no_rect}
 use Rattle.model.specs.Ground.{rects}
 use Rattle.model.specs.Refusal.{hollow}

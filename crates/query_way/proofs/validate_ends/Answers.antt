@@ -1,5 +1,4 @@
 -- `query_way::validate_ends` meets its contract. Assumes nothing.
-use borrow.Author.Rules.{rules}
 use Rattle.model.specs.Refusal.{first, end_lines}
 use Rattle.query_way.proofs.validate_ends.Goals as goal
 

@@ -1,5 +1,4 @@
 -- `query_way::validate_mover` meets its contract. Assumes nothing.
-use borrow.Author.Rules.{rules}
 use Rattle.model.specs.Refusal.{first, mover_lines}
 use Rattle.query_way.proofs.validate_mover.Goals as goal
 

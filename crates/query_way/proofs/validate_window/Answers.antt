@@ -4,7 +4,6 @@ use mathlib.Core.Bool.{false, not, ◌||◌}
 use native.Mathlib.Nat.{mul-le-mul}
 use native.Mathlib.Omega.{arith}
 use lib.Dec.{ltb}
-use borrow.Author.Rules.{rules}
 use borrow.Author.Tests.{lt-ltb, le-ltb, ltb-false}
 use Rattle.model.specs.Boxes.{in_map}
 use Rattle.model.specs.Refusal.{first, hollow, window_lines, caps}

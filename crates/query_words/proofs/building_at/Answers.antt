@@ -4,7 +4,6 @@ use mathlib.Core.Path.{◌≡◌, ap, ◌∙◌}
 use Prim.Native.Nat.{◌+◌}
 use Rattle.model.specs.declared.PixelPosition.{PixelPosition}
 use Rattle.model.specs.Words.{word_at}
-use borrow.Author.Rules.{rules}
 use Rattle.query_words.proofs.building_at.Goals as goal
 
 pub returns : goal.returns

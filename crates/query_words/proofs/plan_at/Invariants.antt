@@ -1,12 +1,10 @@
 -- `query_words::plan_at` meets its contract. After i turns the first i places are read. Assumes nothing.
-use native.Mathlib.Omega.{arith}
-use mathlib.Core.Path.{◌≡◌, refl, ◌∙◌}
-use mathlib.Core.List.{List, ◌++◌, append-nil}
+use mathlib.Core.Path.{◌≡◌}
+use mathlib.Core.List.{List, ◌++◌}
 use Prim.Native.Nat.{ℕ, ◌+◌, ◌-◌, ◌*◌, ◌≤◌}
 use lib.ListN.{drop}
 use Rattle.model.specs.declared.WallBuilding.{WallBuilding}
 use Rattle.model.specs.Lists.{table}
-use Rattle.model.proofs.Lists.{table_store}
 use Rattle.model.specs.Words.{building_at}
 use Rattle.query_words.proofs.plan_at.Given as goal
 

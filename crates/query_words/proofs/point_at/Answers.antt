@@ -1,5 +1,4 @@
 -- `query_words::point_at` meets its contract. Assumes nothing.
-use borrow.Author.Rules.{rules}
 use Rattle.query_words.proofs.point_at.Goals as goal
 
 pub returns : goal.returns

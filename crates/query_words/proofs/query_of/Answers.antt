@@ -1,5 +1,4 @@
 -- `query_words::query_of` meets its contract. Assumes nothing.
-use borrow.Author.Rules.{rules}
 use Rattle.query_words.proofs.query_of.Goals as goal
 
 pub returns : goal.returns

@@ -1,6 +1,5 @@
 -- `query_words::word_at` meets its contract. Assumes nothing.
 use lib.ListN.{get_or-eq_default}
-use borrow.Author.Rules.{rules}
 use Rattle.query_words.proofs.word_at.Goals as goal
 
 pub returns-else-k-words : goal.returns-else-k-words

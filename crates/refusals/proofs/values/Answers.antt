@@ -1,5 +1,4 @@
 -- `refusals::values` meets its contract, case by case. Assumes nothing.
-use borrow.Author.Rules.{rules}
 use Rattle.refusals.proofs.values.Goals as goal
 
 pub returns-in-InvalidGridDimensions : goal.returns-in-InvalidGridDimensions

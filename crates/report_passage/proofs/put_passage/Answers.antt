@@ -1,5 +1,4 @@
 -- `report_passage::put_passage` meets its contract, by the baseline. Assumes nothing.
-use borrow.Author.Rules.{rules}
 use mathlib.Core.Path.{sym, ap}
 use mathlib.Core.Bool.{Bool, true, false, cond}
 use Prim.Native.Nat.{ℕ}

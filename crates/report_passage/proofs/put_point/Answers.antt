@@ -1,5 +1,4 @@
 -- `report_passage::put_point` meets its contract. Assumes nothing.
-use borrow.Author.Rules.{rules}
 use native.Mathlib.Omega.{arith}
 use lib.ListN.{length-append}
 use Rattle.model.specs.Report.{point_line}

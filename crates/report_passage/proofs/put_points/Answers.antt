@@ -1,11 +1,9 @@
 -- `report_passage::put_points` meets its contract. At turn i the lines of the points from i on are left. Assumes nothing.
-use mathlib.Core.Path.{◌≡◌, refl}
-use Prim.Native.Nat.{◌-◌, ◌≤◌}
+use mathlib.Core.Path.{refl}
 use native.Mathlib.Omega.{arith}
-use lib.ListN.{length}
 use Rattle.model.specs.Report.{point_line}
 use Rattle.text.proofs.Chain.{started}
-use Rattle.text.proofs.Lines.{LinesLeft, line_fits, line_put, lines_end}
+use Rattle.text.proofs.Lines.{line_fits, line_put, lines_end}
 use Rattle.report_passage.proofs.put_points.Goals as goal
 
 pub loop-i-init : goal.loop-i-init

@@ -1,5 +1,4 @@
 -- `report_passage::put_verdict` meets its contract, by the verdict. Assumes nothing.
-use borrow.Author.Rules.{rules}
 use mathlib.Core.Path.{sym, ap}
 use native.Mathlib.Omega.{arith}
 use lib.ListN.{length}

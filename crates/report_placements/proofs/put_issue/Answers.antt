@@ -1,5 +1,4 @@
 -- `report_placements::put_issue` meets its contract, by the kind. Assumes nothing.
-use borrow.Author.Rules.{rules}
 use mathlib.Core.Path.{◌≡◌, sym, ap}
 use Prim.Native.Nat.{◌/◌, ◌%◌, ◌^◌}
 use native.Mathlib.Omega.{arith}

@@ -1,11 +1,9 @@
 -- `report_placements::put_issues` meets its contract. At turn i the lines of the words from i on are left. Assumes nothing.
-use mathlib.Core.Path.{◌≡◌, refl}
+use mathlib.Core.Path.{◌≡◌}
 use Prim.Native.Nat.{◌-◌, ◌≤◌}
-use native.Mathlib.Omega.{arith}
 use lib.ListN.{length}
 use Rattle.model.specs.Report.{issue_line}
-use Rattle.text.proofs.Chain.{started}
-use Rattle.text.proofs.Lines.{LinesLeft, line_fits, line_put, lines_end}
+use Rattle.text.proofs.Lines.{LinesLeft}
 use Rattle.report_placements.proofs.put_issues.Given as goal
 
 abbrev pub invariant-loop-i : goal.invariant-loop-i

@@ -2,7 +2,6 @@
 use Prim.Native.Nat.{◌*◌, ◌≤◌}
 use native.Mathlib.Nat.{mul-le-mul}
 use native.Mathlib.Omega.{arith}
-use borrow.Author.Rules.{rules}
 use Rattle.rooms.proofs.center_room.Goals.{After-height-height}
 use Rattle.rooms.proofs.center_room.Goals as goal
 

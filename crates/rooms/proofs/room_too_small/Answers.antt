@@ -1,10 +1,7 @@
 -- `rooms::room_too_small` meets its contract: the lines that are left are those from area i on. Assumes nothing.
 use mathlib.Core.Path.{◌≡◌, refl, sym, ◌∙◌}
-use Prim.Native.Nat.{◌≤◌, ◌-◌}
 use native.Mathlib.Omega.{arith}
-use lib.ListN.{length, take, drop}
-use Rattle.model.specs.Refusal.{first}
-use Rattle.model.specs.Areas.{room_lines}
+use lib.ListN.{length}
 use Rattle.rooms.proofs.Areas.{area_enough, area_small, areas_done}
 use Rattle.rooms.proofs.room_too_small.Goals.{Start}
 use Rattle.rooms.proofs.room_too_small.Goals as goal

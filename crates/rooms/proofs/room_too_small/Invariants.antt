@@ -1,11 +1,9 @@
 -- `rooms::room_too_small` meets its contract: the lines that are left are those from area i on. Assumes nothing.
-use mathlib.Core.Path.{◌≡◌, refl, sym, ◌∙◌}
+use mathlib.Core.Path.{◌≡◌}
 use Prim.Native.Nat.{◌≤◌, ◌-◌}
-use native.Mathlib.Omega.{arith}
-use lib.ListN.{length, take, drop}
+use lib.ListN.{take, drop}
 use Rattle.model.specs.Refusal.{first}
 use Rattle.model.specs.Areas.{room_lines}
-use Rattle.rooms.proofs.Areas.{area_enough, area_small, areas_done}
 use Rattle.rooms.proofs.room_too_small.Given as goal
 
 -- `rooms::room_too_small` meets its contract: the lines that are left are those from area i on. Assumes nothing.

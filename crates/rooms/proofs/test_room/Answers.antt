@@ -1,5 +1,4 @@
 -- `rooms::test_room` meets its contract. Assumes nothing.
-use borrow.Author.Rules.{rules}
 use Rattle.model.specs.RouteTest.{test_rooms}
 use Rattle.rooms.proofs.test_room.Goals as goal
 

@@ -1,5 +1,4 @@
 -- `stamps::clip` meets its contract. Assumes nothing.
-use borrow.Author.Rules.{rules}
 use Rattle.stamps.proofs.clip.Goals as goal
 
 pub returns : goal.returns

@@ -1,5 +1,4 @@
 -- `stamps::inner` meets its contract. Assumes nothing.
-use borrow.Author.Rules.{rules}
 use Rattle.stamps.proofs.inner.Goals as goal
 
 pub returns : goal.returns

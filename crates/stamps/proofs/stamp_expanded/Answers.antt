@@ -2,7 +2,6 @@
 use Prim.Native.Nat.{◌+◌, ◌<◌}
 use native.Mathlib.Omega.{arith}
 use lib.ListN.{length}
-use borrow.Author.Rules.{rules}
 use Rattle.numbers.proofs.Places.{rows_fit}
 use Rattle.stamps.proofs.Adding.{adds_box}
 use Rattle.stamps.proofs.Clipping.{stops_clipped}

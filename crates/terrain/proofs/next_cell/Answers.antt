@@ -1,6 +1,6 @@
 -- `terrain::next_cell` meets its contract. The invariant: no cell passed has the wanted bit. Assumes nothing.
 use mathlib.Core.Path.{◌≡◌}
-use Prim.Native.Nat.{ℕ, ◌/◌, ◌%◌, ◌-◌, ◌≤◌, ◌<◌}
+use Prim.Native.Nat.{◌/◌, ◌%◌}
 use native.Mathlib.Omega.{arith}
 use lib.ListN.{get_or}
 use Rattle.stamps.proofs.Some.{none_more}

@@ -1,9 +1,7 @@
 -- `terrain::next_cell` meets its contract. The invariant: no cell passed has the wanted bit. Assumes nothing.
 use mathlib.Core.Path.{◌≡◌}
 use Prim.Native.Nat.{ℕ, ◌/◌, ◌%◌, ◌-◌, ◌≤◌, ◌<◌}
-use native.Mathlib.Omega.{arith}
 use lib.ListN.{get_or}
-use Rattle.stamps.proofs.Some.{none_more}
 use Rattle.terrain.proofs.next_cell.Given as goal
 
 abbrev pub invariant-loop-i : goal.invariant-loop-i

@@ -1,5 +1,4 @@
 -- `terrain::reach` meets its contract. Assumes nothing.
-use borrow.Author.Rules.{rules}
 use Rattle.terrain.proofs.reach.Goals as goal
 
 pub returns : goal.returns

@@ -2,12 +2,11 @@
 -- and stamps the run behind it. Assumes nothing.
 use mathlib.Core.Path.{◌≡◌, refl, sym, ap, subst, ◌∙◌}
 use mathlib.Core.Bool.{not, ◌&&◌}
-use Prim.Native.Nat.{ℕ, ◌+◌, ◌*◌, ◌-◌, ◌≤◌, ◌<◌}
+use Prim.Native.Nat.{ℕ, ◌+◌, ◌*◌, ◌-◌, ◌<◌}
 use native.Mathlib.Omega.{arith}
-use lib.ListN.{length, get_or}
-use borrow.Author.Rules.{rules}
+use lib.ListN.{get_or}
 use Rattle.model.specs.Ground.{walkable}
-use Rattle.stamps.specs.Stamps.{Adds, stop}
+use Rattle.stamps.specs.Stamps.{stop}
 use Rattle.stamps.proofs.Some.{among_none}
 use Rattle.stamps.proofs.Adding.{adds_none, adds_then, adds_same}
 use Rattle.terrain.specs.Terrain.{NextCell, cell_at, row_stops}

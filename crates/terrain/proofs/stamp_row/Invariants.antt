@@ -1,17 +1,10 @@
 -- `terrain::stamp_row` meets its contract. The invariant: the unwalkable cells before the column are stamped. A turn passes a gap of walkable cells
 -- and stamps the run behind it. Assumes nothing.
-use mathlib.Core.Path.{◌≡◌, refl, sym, ap, subst, ◌∙◌}
-use mathlib.Core.Bool.{not, ◌&&◌}
-use Prim.Native.Nat.{ℕ, ◌+◌, ◌*◌, ◌-◌, ◌≤◌, ◌<◌}
-use native.Mathlib.Omega.{arith}
-use lib.ListN.{length, get_or}
-use borrow.Author.Rules.{rules}
-use Rattle.model.specs.Ground.{walkable}
-use Rattle.stamps.specs.Stamps.{Adds, stop}
-use Rattle.stamps.proofs.Some.{among_none}
-use Rattle.stamps.proofs.Adding.{adds_none, adds_then, adds_same}
-use Rattle.terrain.specs.Terrain.{NextCell, cell_at, row_stops}
-use Rattle.terrain.proofs.Cells.{goes_on, next_run}
+use mathlib.Core.Path.{◌≡◌}
+use Prim.Native.Nat.{◌-◌, ◌≤◌}
+use lib.ListN.{length}
+use Rattle.stamps.specs.Stamps.{Adds}
+use Rattle.terrain.specs.Terrain.{row_stops}
 use Rattle.terrain.proofs.stamp_row.Given as goal
 
 abbrev pub invariant-loop-column : goal.invariant-loop-column

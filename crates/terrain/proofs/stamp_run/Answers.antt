@@ -2,7 +2,6 @@
 use mathlib.Core.Path.{sym}
 use Prim.Native.Nat.{◌+◌, ◌*◌}
 use native.Mathlib.Omega.{arith}
-use borrow.Author.Rules.{rules}
 use Rattle.stamps.specs.Stamps.{stop, flat}
 use Rattle.stamps.proofs.Some.{among_none}
 use Rattle.stamps.proofs.Adding.{adds_none, adds_same}

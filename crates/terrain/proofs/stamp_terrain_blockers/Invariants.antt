@@ -1,18 +1,9 @@
 -- `terrain::stamp_terrain_blockers` meets its contract. The invariant: the rows passed are stamped, each with at most 1,024 rectangles. Assumes nothing.
-use mathlib.Core.Path.{◌≡◌, refl, ap, ◌∙◌}
-use Prim.Native.Nat.{ℕ, ◌*◌, ◌-◌, ◌≤◌, ◌<◌}
-use native.Mathlib.Omega.{arith}
-use native.Mathlib.Nat.{mul_comm}
+use mathlib.Core.Path.{◌≡◌}
+use Prim.Native.Nat.{◌*◌, ◌-◌, ◌≤◌}
 use lib.ListN.{length}
-use borrow.Author.Rules.{rules}
-use Rattle.numbers.proofs.Places.{rows_fit}
-use Rattle.model.specs.declared.CollisionBounds.{CollisionBounds}
 use Rattle.stamps.specs.Stamps.{Adds, among}
-use Rattle.stamps.specs.declared.Span.{Span}
-use Rattle.stamps.proofs.Adding.{adds_start, adds_next, adds_same}
-use Rattle.stamps.specs.declared.Frame.{Frame}
-use Rattle.terrain.specs.Terrain.{row_stops, reach_of}
-use Rattle.terrain.proofs.Terrain.{terrain_stops}
+use Rattle.terrain.specs.Terrain.{row_stops}
 use Rattle.terrain.proofs.stamp_terrain_blockers.Given as goal
 
 abbrev pub invariant-loop-row : goal.invariant-loop-row

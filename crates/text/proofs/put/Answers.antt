@@ -1,10 +1,10 @@
 -- `text::put` meets its contract. After k turns the first k bytes of the text are pasted over the buffer. Assumes nothing.
 use native.Mathlib.Omega.{arith}
-use Prim.Native.Nat.{◌+◌, ◌-◌, ◌≤◌}
-use mathlib.Core.Path.{◌≡◌, refl, ap, ◌∙◌}
+use Prim.Native.Nat.{◌+◌}
+use mathlib.Core.Path.{refl, ap, ◌∙◌}
 use native.Mathlib.Numerals.{add-one}
-use lib.ListN.{length, take, drop, length-set}
-use lib.Seq.{paste, paste-zero, paste-suc, take-paste, drop-paste, take_all}
+use lib.ListN.{take, drop, length-set}
+use lib.Seq.{paste-zero, paste-suc, take-paste, drop-paste, take_all}
 use Rattle.text.proofs.put.Goals as goal
 
 pub loop-k-init : goal.loop-k-init

@@ -1,5 +1,4 @@
 -- `text::put_number` meets its contract: the digits that `io::decimal` gives are the decimal text. Assumes nothing.
-use borrow.Author.Rules.{rules}
 use mathlib.Core.Path.{ap, ◌∙◌}
 use native.Mathlib.Omega.{arith}
 use lib.ListN.{length}

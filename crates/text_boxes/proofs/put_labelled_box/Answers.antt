@@ -1,5 +1,4 @@
 -- `text_boxes::put_labelled_box` meets its contract. Assumes nothing.
-use borrow.Author.Rules.{rules}
 use native.Mathlib.Omega.{arith}
 use lib.ListN.{length-append}
 use Rattle.text.proofs.Chain.{then}

@@ -1,5 +1,4 @@
 -- `text_boxes::put_spaced` meets its contract, by the sign of the number. Assumes nothing.
-use borrow.Author.Rules.{rules}
 use mathlib.Core.Path.{◌≡◌, sym, ap, ◌∙◌}
 use mathlib.Core.List.{◌++◌}
 use Prim.Native.Nat.{ℕ}

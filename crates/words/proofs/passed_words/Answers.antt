@@ -1,7 +1,6 @@
 -- `words::passed_words` meets its contract. Assumes nothing.
 use mathlib.Core.List.{[], ◌∷◌}
 use lib.ListN.{get_or}
-use borrow.Author.Rules.{rules}
 use Rattle.words.proofs.passed_words.Goals as goal
 
 pub returns : goal.returns

@@ -1,7 +1,6 @@
 -- `words::put` meets its contract. Assumes nothing.
 use mathlib.Core.Path.{sym}
 use lib.Seq.{set_out}
-use borrow.Author.Rules.{rules}
 use Rattle.words.proofs.put.Goals as goal
 
 pub returns-else-k-out : goal.returns-else-k-out

@@ -6,7 +6,6 @@ use Prim.Native.Nat.{ℕ}
 use Rattle.model.specs.Refusal.{given}
 use Rattle.model.specs.Words.{refusal_words, passed_words, placement_words, written}
 use Rattle.words.proofs.Writing.{both, five}
-use borrow.Author.Rules.{rules}
 use Rattle.words.proofs.put_check.Goals as goal
 
 pub returns : goal.returns

@@ -5,7 +5,6 @@ use Prim.Native.Nat.{ℕ}
 use Rattle.model.specs.Refusal.{given}
 use Rattle.model.specs.Words.{written}
 use Rattle.words.proofs.Writing.{number_first}
-use borrow.Author.Rules.{rules}
 use Rattle.words.proofs.put_outcome.Goals as goal
 
 pub returns : goal.returns

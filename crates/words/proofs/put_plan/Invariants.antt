@@ -1,13 +1,9 @@
 -- `words::put_plan` meets its contract. After i turns the first i buildings are written. Assumes nothing.
-use native.Mathlib.Omega.{arith}
-use mathlib.Core.Path.{◌≡◌, refl, ap, ◌∙◌}
-use mathlib.Core.List.{List, flat_map}
-use Prim.Native.Nat.{ℕ, ◌+◌, ◌-◌, ◌*◌, ◌≤◌, ◌<◌}
-use lib.ListN.{length, take, length-take}
-use lib.Seq.{take_all}
-use Rattle.model.specs.declared.WallBuilding.{WallBuilding}
+use mathlib.Core.Path.{◌≡◌}
+use mathlib.Core.List.{flat_map}
+use Prim.Native.Nat.{◌-◌, ◌≤◌}
+use lib.ListN.{take}
 use Rattle.model.specs.Words.{building_words, written}
-use Rattle.words.proofs.Writing.{written_length, group_next, eight_each}
 use Rattle.words.proofs.put_plan.Given as goal
 
 abbrev pub invariant-loop-i : goal.invariant-loop-i

@@ -5,7 +5,6 @@ use Prim.Native.Nat.{ℕ}
 use lib.ListN.{get_or, take}
 use Rattle.model.specs.Words.{rect_words, end_words, building_words, written}
 use Rattle.words.proofs.Writing.{both}
-use borrow.Author.Rules.{rules}
 use Rattle.words.proofs.put_query.Goals as goal
 
 pub returns : goal.returns

@@ -7,7 +7,6 @@ use lib.ListN.{take}
 use Rattle.model.specs.Refusal.{given}
 use Rattle.model.specs.Words.{refusal_words, query_words, written}
 use Rattle.words.proofs.Writing.{both, five}
-use borrow.Author.Rules.{rules}
 use Rattle.words.proofs.put_read.Goals as goal
 
 pub returns : goal.returns

@@ -7,7 +7,6 @@ use lib.ListN.{set}
 use Rattle.model.specs.Refusal.{given}
 use Rattle.model.specs.Words.{flag, refusal_words, written}
 use Rattle.words.proofs.Writing.{both, five}
-use borrow.Author.Rules.{rules}
 use Rattle.words.proofs.put_test.Goals as goal
 
 pub returns : goal.returns

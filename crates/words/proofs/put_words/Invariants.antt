@@ -1,11 +1,8 @@
 -- `words::put_words` meets its contract. After i turns the first i words are written. Assumes nothing.
-use native.Mathlib.Omega.{arith}
-use mathlib.Core.Path.{◌≡◌, refl, ap, ◌∙◌}
-use mathlib.Core.List.{List}
-use Prim.Native.Nat.{ℕ, ◌+◌, ◌-◌, ◌≤◌}
-use lib.ListN.{get_or, set, take}
+use mathlib.Core.Path.{◌≡◌}
+use Prim.Native.Nat.{◌-◌, ◌≤◌}
+use lib.ListN.{take}
 use Rattle.model.specs.Words.{written}
-use Rattle.words.proofs.Writing.{written_length, word_next}
 use Rattle.words.proofs.put_words.Given as goal
 
 abbrev pub invariant-loop-i : goal.invariant-loop-i

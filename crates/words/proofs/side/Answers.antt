@@ -1,7 +1,6 @@
 -- `words::side` meets its contract. Assumes nothing.
 use native.Mathlib.Omega.{arith}
 use Rattle.words.proofs.Writing.{bits_above, bits_below}
-use borrow.Author.Rules.{rules}
 use mir.Facts.{to_z-of_z}
 use Rattle.numbers.specs.Integers.{Biased}
 use Rattle.words.proofs.side.Goals.{After-biased-raised}

@@ -1,9 +1,8 @@
 -- `bits::Bits::cells` meets its contract. After k turns the first k places hold the first k fields, and the rest is as it came. Assumes nothing.
 use native.Mathlib.Omega.{arith}
-use Prim.Native.Nat.{ℕ, ◌+◌, ◌*◌, ◌-◌, ◌≤◌}
+use Prim.Native.Nat.{ℕ, ◌+◌, ◌*◌}
 use mathlib.Core.Path.{◌≡◌, refl, ap, ◌∙◌}
-use mathlib.Core.List.{List, ◌++◌}
-use lib.ListN.{length, drop}
+use lib.ListN.{length}
 use Rattle.model.specs.Lists.{table}
 use Rattle.model.specs.Packed.{field_at}
 use Rattle.model.proofs.Lists.{table_store, table_front}

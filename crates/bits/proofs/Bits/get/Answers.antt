@@ -1,6 +1,5 @@
 -- `bits::Bits::get` meets its contract: a field within the 40 bits from a byte on is a quotient and a remainder of them. Assumes nothing.
 use mathlib.Core.Path.{refl}
-use borrow.Author.Rules.{rules}
 use native.Mathlib.Omega.{arith}
 use lib.Pow.{pow_pos, pow_mono}
 use native.Mathlib.Nat.{lt_of_lt_of_le}

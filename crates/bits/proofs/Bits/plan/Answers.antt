@@ -1,15 +1,10 @@
 -- `bits::Bits::plan` meets its contract. After i turns the first i places hold the first i buildings, and the rest is zero. Assumes nothing.
-use borrow.Author.Rules.{rules}
-use mathlib.Core.Path.{◌≡◌, refl, ap}
-use mathlib.Core.List.{List, ◌++◌}
-use Prim.Native.Nat.{ℕ, ◌+◌, ◌*◌, ◌-◌, ◌≤◌}
+use mathlib.Core.Path.{refl, ap}
+use Prim.Native.Nat.{◌+◌, ◌*◌}
 use native.Mathlib.Omega.{arith}
-use lib.ListN.{drop, replicate}
+use lib.ListN.{replicate}
 use Rattle.model.specs.Lists.{table}
-use Rattle.model.specs.declared.WallBuilding.{WallBuilding}
-use Rattle.model.specs.Packed.{building_in}
 use Rattle.model.proofs.Lists.{table_store}
-use Rattle.bits.specs.Reading.{AtWord}
 use Rattle.bits.proofs.Fields.{plan_read}
 use Rattle.bits.proofs.Bits.plan.Invariants.{nth}
 use Rattle.bits.proofs.Bits.plan.Goals as goal

@@ -1,5 +1,4 @@
 -- `bits::Bits::point` meets its contract. Assumes nothing.
-use borrow.Author.Rules.{rules}
 use native.Mathlib.Omega.{arith}
 use Prim.Native.Nat.{◌+◌}
 use Rattle.bits.proofs.Fields.{word_is}

@@ -1,5 +1,4 @@
 -- `bits::Bits::query` meets its contract. Assumes nothing.
-use borrow.Author.Rules.{rules}
 use native.Mathlib.Omega.{arith}
 use Prim.Native.Nat.{◌+◌}
 use Rattle.bits.proofs.Bits.query.Goals as goal

@@ -1,10 +1,8 @@
 -- `bits::Bits::words` meets its contract. After k turns the first k places hold the first k fields, and the rest is as it came. Assumes nothing.
 use native.Mathlib.Omega.{arith}
-use Prim.Native.Nat.{ℕ, ◌+◌, ◌*◌, ◌-◌, ◌≤◌}
+use Prim.Native.Nat.{ℕ}
 use mathlib.Core.Path.{◌≡◌, refl, ap, ◌∙◌}
-use mathlib.Core.List.{List, ◌++◌}
-use lib.ListN.{length, drop}
-use lib.IntN.{ℤ}
+use lib.ListN.{length}
 use mir.Facts.{to_z-of_z}
 use mir.Val.{SFits}
 use mir.Syntax.{w32}
