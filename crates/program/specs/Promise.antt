@@ -1,5 +1,6 @@
 -- What the program's parts promise. Assumes nothing.
-use Rattle.std.specs.Prelude.{◌≡◌, List, ℕ, ◌≤◌, length, take, drop}
+use Rattle.std.specs.Prelude.{◌≡◌, List, Option, ℕ, ◌≤◌, length, take, drop}
+use Rattle.std.specs.Io.KnownBytes.{Appends}
 use Rattle.model.specs.declared.WallQuery.{WallQuery}
 use Rattle.model.specs.Ground.{Ground}
 use Rattle.model.specs.Refusal.{Line, first}
@@ -27,3 +28,7 @@ pub record Ran (buffer : List ℕ) (n : ℕ) (was now : List ℕ) (r : ℕ) : Ty
 -- The longest input that is not refused: 64 by 64 cells, 32 obstacles, 63 buildings.
 abbrev pub longest : ℕ
 longest = 5141
+
+-- A writer's known bytes, before and after, grow by what the program prints for the bytes s.
+abbrev pub Reported : Option (List ℕ) → Option (List ℕ) → List ℕ → Type 0
+Reported was now s = (text : List ℕ) × Prints s text × Appends was now text

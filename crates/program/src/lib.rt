@@ -1,16 +1,18 @@
 // The program wall report: the bytes of a packed query to the text that is printed.
 #![tactic(auto)]
-ghost use Rattle.std.specs.Prelude.{◌≡◌, ◌++◌, ◌≤◌, ◌<◌, length};
+
+ghost use Rattle.std.specs.Prelude.{◌≡◌, ◌++◌, ◌≤◌, ◌<◌, length, IfSome, OnOk};
 ghost use Rattle.model.specs.Ground.{ground};
 ghost use Rattle.model.specs.Refusal.{refusal, given, first};
 ghost use Rattle.model.specs.Packed.{ground_in, query_in};
 ghost use Rattle.model.specs.Report.{header_lines, reading_lines, check_lines, refused_text};
 ghost use Rattle.text.specs.Writing.{Wrote};
 ghost use Rattle.report.specs.Printing.{report_room, refused_room};
-ghost use Rattle.program.specs.Promise.{Told, Printed, Ran, longest};
+ghost use Rattle.program.specs.Promise.{Told, Printed, Ran, longest, Reported};
 
-use libc::STDOUT_FILENO;
 use model::{Outcome, WallError, WallQuery};
+use std::io;
+use std::io::{Read, Write};
 
 // A refusal prints only its number.
 fn print_refusal(out: &mut [u8], e: WallError) -> usize
@@ -123,11 +125,13 @@ pub fn run(out: &mut [u8], buffer: &[u8], n: usize) -> usize
     print_input(out, &buffer[..n])
 }
 
-// Reads a packed query from a file, and writes what the program prints for it.
-pub fn report_from(input: i32) {
+// Reads a packed query from the input, and writes what the program prints for it.
+pub fn report_from<R: Read, W: Write>(input: &mut R, output: &mut W) -> io::Result<()>
+    ensures { OnOk result (IfSome (R.remaining input.old) (Reported (W.contents output.old) (W.contents output.new))) }
+{
     let mut buffer = [0u8; 8192];
-    let n = io::read_full(input, &mut buffer);
+    let n = reading::read_full(input, &mut buffer)?;
     let mut out = [0u8; 171115];
     let end = run(&mut out, &buffer, n);
-    io::write_all(STDOUT_FILENO, &out[..end]);
+    output.write_all(&out[..end])
 }

@@ -1,7 +1,9 @@
 // What the programs that the gate runs have in common: printing a refusal with its values, and opening a file by its number.
 #![tactic(auto)]
-use libc::STDOUT_FILENO;
+
 use model::Outcome;
+use std::rt::Files;
+use std::{fs, io};
 
 // How many values each refusal has, by its number.
 const VALUES: [usize; 21] = [
@@ -9,39 +11,39 @@ const VALUES: [usize; 21] = [
 ];
 
 // A space and the number.
-pub fn print_word(n: u64) {
-    io::write_all(STDOUT_FILENO, b" ");
-    io::print_decimal(STDOUT_FILENO, n);
+pub fn print_word(rt: &impl Print, n: u64) -> io::Result<()> {
+    print!(rt; " {n}")
 }
 
-fn print_values(values: [u64; 4], count: usize) {
+fn print_values(rt: &impl Print, values: [u64; 4], count: usize) -> io::Result<()> {
     let mut i = 0;
     while i < 4 {
         if i < count {
-            print_word(values[i]);
+            print_word(rt, values[i])?;
         }
         i += 1;
     }
+    Ok(())
 }
 
 // A refusal's number and its values, or ok.
-pub fn print_outcome(outcome: Outcome) {
+pub fn print_outcome(rt: &impl Print, outcome: Outcome) -> io::Result<()> {
     let Outcome::Refused(e) = outcome else {
-        io::write_all(STDOUT_FILENO, b"ok\n");
-        return;
+        return println!(rt; "ok");
     };
     let number = refusals::number(e);
-    io::write_all(STDOUT_FILENO, b"refused");
-    print_word(number as u64);
+    print!(rt; "refused")?;
+    print_word(rt, number as u64)?;
     if number < 21 {
-        print_values(refusals::values(e), VALUES[number]);
+        print_values(rt, refusals::values(e), VALUES[number])?;
     }
-    io::write_all(STDOUT_FILENO, b"\n");
+    println!(rt;)
 }
 
-// The file of data/ whose name is k, two digits; below 0 where there is none. The name is printed as a line.
-pub fn open_numbered(k: u8) -> i32 {
-    let name = [b'0' + k / 10 % 10, b'0' + k % 10, b'\n'];
-    io::write_all(STDOUT_FILENO, &name);
-    os::open_read(&name[..2])
+// The file of data/ whose name is k, two digits; none where it can't be opened. The name is printed as a line.
+pub fn open_numbered<R: Files + Print>(rt: &R, k: u8) -> io::Result<Option<R::File>> {
+    let digits = [b'0' + k / 10 % 10, b'0' + k % 10];
+    let name = str::from_utf8(&digits).unwrap();
+    println!(rt; "{name}")?;
+    Ok(fs::open(rt, name).ok())
 }

@@ -1,11 +1,13 @@
 // Runs `validate_query` on one query with one or two of its numbers changed, case by case, and prints the refusal's number and values, or ok.
 #![tactic(auto)]
+
 ghost use Rattle.std.specs.Prelude.{◌≡◌, ◌≤◌, length};
 
 use model::{
     CollisionBounds, DepotFootprint, Outcome, PixelPosition, PixelRect, Plan, TilePosition,
     WallBuilding, WallQuery,
 };
+use std::io;
 
 // The numbers of the query, by place: 0 map width, 1 height, 2 number of cells, 3 cell 3, 4 cell 5, 5 number of words, 6 to 9 the words of obstacle 1,
 // 10 to 13 window, 14 and 15 start, 16 and 17 end, 18 to 21 mover, 22 building count, 23 to 30 building 0, 31 to 38 building 1.
@@ -227,9 +229,9 @@ fn run(form: [u32; 39], words: &[i32]) -> Outcome {
 }
 
 // Obstacle 1's words are the form's. There are always 32,800 words.
-fn case(row: [u32; 5], words: &mut [i32]) {
+fn case(rt: &impl Print, row: [u32; 5], words: &mut [i32]) -> io::Result<()> {
     if words.len() < 32800 {
-        return;
+        return Ok(());
     }
     let base = if row[0] == 0 { FORM } else { LONG };
     let form = changed(changed(base, row[1], row[2]), row[3], row[4]);
@@ -238,7 +240,7 @@ fn case(row: [u32; 5], words: &mut [i32]) {
     words[6] = signed(form[8]);
     words[7] = signed(form[9]);
     let m = at_most(form[5], 32800);
-    runs::print_outcome(run(form, &words[..m]));
+    runs::print_outcome(rt, run(form, &words[..m]))
 }
 
 // 8,200 obstacles of one pixel each: 0, 0, 1, 1. The `ensures` gives the length, which lending the array as a slice needs.
@@ -254,16 +256,17 @@ fn obstacles() -> [i32; 32800]
     words
 }
 
-fn cases(words: &mut [i32]) {
+fn cases(rt: &impl Print, words: &mut [i32]) -> io::Result<()> {
     let mut k = 0;
     while k < 68 {
         let row = CASES[k];
-        case(row, words);
+        case(rt, row, words)?;
         k += 1;
     }
+    Ok(())
 }
 
-fn main() {
+fn main(rt: HostRuntime) -> io::Result<()> {
     let mut words = obstacles();
-    cases(&mut words);
+    cases(&rt, &mut words)
 }

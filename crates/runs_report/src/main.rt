@@ -1,18 +1,21 @@
 // Runs the program on each file of data/, and prints the file's name before what the program prints. `make.py` says what each holds.
 #![tactic(auto)]
-fn one(k: u8) {
-    let input = runs::open_numbered(k);
-    if input < 0 {
-        return;
-    }
-    program::report_from(input);
-    libc::close(input);
+
+use std::io;
+use std::rt::Files;
+
+fn one<R: Files + Print>(rt: &R, k: u8) -> io::Result<()> {
+    let Some(mut input) = runs::open_numbered(rt, k)? else {
+        return Ok(());
+    };
+    program::report_from(&mut input, &mut io::writer(rt))
 }
 
-fn main() {
+fn main(rt: HostRuntime) -> io::Result<()> {
     let mut k = 0;
     while k < 67 {
-        one(k);
+        one(&rt, k)?;
         k += 1;
     }
+    Ok(())
 }

@@ -2,47 +2,45 @@
 //
 // Every place of an area comes as 7. Of areas 3 to 7 it prints how many places at the front are then zero, and of every area how many are still 7.
 #![tactic(auto)]
+
 ghost use Rattle.std.specs.Prelude.{◌≤◌};
 
-use libc::STDOUT_FILENO;
 use model::{Outcome, Passed, PixelRect, WallPassage, WallPlacement, WallQuery, WallReply};
 use runs::print_word;
+use std::io;
+use std::rt::Files;
 
-fn print_label(label: &[u8]) {
-    io::write_all(STDOUT_FILENO, label);
+fn print_label(rt: &impl Print, label: &str) -> io::Result<()> {
+    rt.print(label)
 }
 
-// A space and the number. For n below 0 its magnitude is one more than what `!n` gives.
-fn print_signed(n: i32) {
-    if n < 0 {
-        print_label(b" -");
-        io::print_decimal(STDOUT_FILENO, (!n) as u64 + 1);
-    } else {
-        print_word(n as u64);
-    }
+// A space and the number.
+fn print_signed(rt: &impl Print, n: i32) -> io::Result<()> {
+    print!(rt; " {n}")
 }
 
-fn print_rect(r: PixelRect) {
-    print_signed(r.left);
-    print_signed(r.top);
-    print_signed(r.right);
-    print_signed(r.bottom);
+fn print_rect(rt: &impl Print, r: PixelRect) -> io::Result<()> {
+    print_signed(rt, r.left)?;
+    print_signed(rt, r.top)?;
+    print_signed(rt, r.right)?;
+    print_signed(rt, r.bottom)
 }
 
 // A line for each of the first n placements, n at most 32.
-fn print_placements(placements: [WallPlacement; 32], n: usize) {
+fn print_placements(rt: &impl Print, placements: [WallPlacement; 32], n: usize) -> io::Result<()> {
     let mut i = 0;
     while i < 32 {
         if i < n {
             let p = placements[i];
-            print_label(b"placement");
-            print_rect(p.footprint);
-            print_rect(p.collision);
-            print_word(p.issues as u64);
-            print_label(b"\n");
+            print_label(rt, "placement")?;
+            print_rect(rt, p.footprint)?;
+            print_rect(rt, p.collision)?;
+            print_word(rt, p.issues as u64)?;
+            print_label(rt, "\n")?;
         }
         i += 1;
     }
+    Ok(())
 }
 
 fn passage_number(passage: WallPassage) -> u64 {
@@ -55,33 +53,34 @@ fn passage_number(passage: WallPassage) -> u64 {
     }
 }
 
-fn print_passed(passed: Passed) {
+fn print_passed(rt: &impl Print, passed: Passed) -> io::Result<()> {
     let passage = passed.passage;
-    print_label(b"passage");
-    print_word(passage_number(passage));
-    print_word(if passed.baseline_passable { 1 } else { 0 });
-    print_word(passed.points as u64);
-    print_label(b"\n");
+    print_label(rt, "passage")?;
+    print_word(rt, passage_number(passage))?;
+    print_word(rt, if passed.baseline_passable { 1 } else { 0 })?;
+    print_word(rt, passed.points as u64)?;
+    print_label(rt, "\n")
 }
 
 // The upper and the lower half of the word.
-fn print_halves(label: &[u8], word: u32) {
-    print_label(label);
-    print_word((word / 65536) as u64);
-    print_word((word % 65536) as u64);
-    print_label(b"\n");
+fn print_halves(rt: &impl Print, label: &str, word: u32) -> io::Result<()> {
+    print_label(rt, label)?;
+    print_word(rt, (word / 65536) as u64)?;
+    print_word(rt, (word % 65536) as u64)?;
+    print_label(rt, "\n")
 }
 
 // A line for each word up to the first that is still 7. No case has the point (0, 7).
-fn print_words(label: &[u8], area: &[u32]) {
+fn print_words(rt: &impl Print, label: &str, area: &[u32]) -> io::Result<()> {
     let mut i = 0;
     while i < area.len() {
         if area[i] == 7 {
-            return;
+            return Ok(());
         }
-        print_halves(label, area[i]);
+        print_halves(rt, label, area[i])?;
         i += 1;
     }
+    Ok(())
 }
 
 // How many places at the front are zero.
@@ -135,18 +134,26 @@ fn kept_marks(area: &[u8]) -> u64 {
 }
 
 // How many places at the front of the areas 3 to 7 are zero.
-fn print_zeros(base: &[u32], planned: &[u32], marks: &[u8], parents: &[u32], queue: &[u32]) {
-    print_label(b"zero");
-    print_word(zeros(base));
-    print_word(zeros(planned));
-    print_word(zero_marks(marks));
-    print_word(zeros(parents));
-    print_word(zeros(queue));
-    print_label(b"\n");
+fn print_zeros(
+    rt: &impl Print,
+    base: &[u32],
+    planned: &[u32],
+    marks: &[u8],
+    parents: &[u32],
+    queue: &[u32],
+) -> io::Result<()> {
+    print_label(rt, "zero")?;
+    print_word(rt, zeros(base))?;
+    print_word(rt, zeros(planned))?;
+    print_word(rt, zero_marks(marks))?;
+    print_word(rt, zeros(parents))?;
+    print_word(rt, zeros(queue))?;
+    print_label(rt, "\n")
 }
 
 // How many places of the areas 2 to 8 are still 7.
 fn print_kept(
+    rt: &impl Print,
     issues: &[u32],
     base: &[u32],
     planned: &[u32],
@@ -154,16 +161,16 @@ fn print_kept(
     parents: &[u32],
     queue: &[u32],
     route: &[u32],
-) {
-    print_label(b"kept");
-    print_word(kept(issues));
-    print_word(kept(base));
-    print_word(kept(planned));
-    print_word(kept_marks(marks));
-    print_word(kept(parents));
-    print_word(kept(queue));
-    print_word(kept(route));
-    print_label(b"\n");
+) -> io::Result<()> {
+    print_label(rt, "kept")?;
+    print_word(rt, kept(issues))?;
+    print_word(rt, kept(base))?;
+    print_word(rt, kept(planned))?;
+    print_word(rt, kept_marks(marks))?;
+    print_word(rt, kept(parents))?;
+    print_word(rt, kept(queue))?;
+    print_word(rt, kept(route))?;
+    print_label(rt, "\n")
 }
 
 // n, or the most that there is.
@@ -214,13 +221,14 @@ fn lend(
 
 // Prints the answer, the words in areas 2 and 8, and what is left in the areas.
 fn check(
+    rt: &impl Print,
     places: [usize; 7],
     width: u32,
     height: u32,
     cells: &[u8],
     words: &[i32],
     query: WallQuery,
-) {
+) -> io::Result<()> {
     let mut issues = [7u32; 24];
     let mut base = [7u32; 4226];
     let mut planned = [7u32; 4226];
@@ -244,25 +252,27 @@ fn check(
         &mut route,
     );
     let plan = query.plan;
-    print_reply(reply, plan.count);
-    print_words(b"issue", &issues);
-    print_words(b"point", &route);
-    print_zeros(&base, &planned, &marks, &parents, &queue);
-    print_kept(&issues, &base, &planned, &marks, &parents, &queue, &route);
+    print_reply(rt, reply, plan.count)?;
+    print_words(rt, "issue", &issues)?;
+    print_words(rt, "point", &route)?;
+    print_zeros(rt, &base, &planned, &marks, &parents, &queue)?;
+    print_kept(
+        rt, &issues, &base, &planned, &marks, &parents, &queue, &route,
+    )
 }
 
 // The outcome, and of an accepted check the placements and the passage.
-fn print_reply(reply: WallReply, count: usize) {
+fn print_reply(rt: &impl Print, reply: WallReply, count: usize) -> io::Result<()> {
     let outcome = reply.outcome;
-    runs::print_outcome(outcome);
+    runs::print_outcome(rt, outcome)?;
     let Outcome::Accepted = outcome else {
-        return;
+        return Ok(());
     };
     let answer = reply.check;
     let placements = answer.placements;
     let passed = answer.passed;
-    print_placements(placements, count);
-    print_passed(passed);
+    print_placements(rt, placements, count)?;
+    print_passed(rt, passed)
 }
 
 // The number in two bytes.
@@ -296,47 +306,47 @@ fn cell_count(width: u32, height: u32) -> usize {
     width as usize * height as usize
 }
 
-fn run(input: &[u8]) {
+fn run(rt: &impl Print, input: &[u8]) -> io::Result<()> {
     if input.len() < 14 {
-        return;
+        return Ok(());
     }
     let mut cells = [0u8; 1024];
     let mut words = [0i32; 64];
     let reply = packed::read_packed(&input[14..], &mut cells, &mut words);
     let outcome = reply.outcome;
     let Outcome::Accepted = outcome else {
-        runs::print_outcome(outcome);
-        return;
+        return runs::print_outcome(rt, outcome);
     };
     let query = reply.packed;
     let n = at_most(cell_count(query.width, query.height), 1024);
     let k = at_most(query.obstacles, 16);
     let asked = query.query;
     check(
+        rt,
         places_of(input),
         query.width,
         query.height,
         &cells[..n],
         &words[..4 * k],
         asked,
-    );
+    )
 }
 
-fn one(k: u8) {
-    let input = runs::open_numbered(k);
-    if input < 0 {
-        return;
-    }
+fn one<R: Files + Print>(rt: &R, k: u8) -> io::Result<()> {
+    let Some(mut input) = runs::open_numbered(rt, k)? else {
+        return Ok(());
+    };
     let mut buffer = [0u8; 4096];
-    let n = io::read_full(input, &mut buffer);
-    libc::close(input);
-    run(&buffer[..n]);
+    let n = reading::read_full(&mut input, &mut buffer)?;
+    drop(input);
+    run(rt, &buffer[..n])
 }
 
-fn main() {
+fn main(rt: HostRuntime) -> io::Result<()> {
     let mut k = 0;
     while k < 46 {
-        one(k);
+        one(&rt, k)?;
         k += 1;
     }
+    Ok(())
 }
