@@ -2,7 +2,6 @@
 use borrow.Author.Tests.{lt-ltb, le-ltb}
 use Rattle.model.specs.Refusal.{first}
 use Rattle.model.specs.Report.{header_lines}
-use borrow.Author.Rules.{rules}
 use Rattle.program.proofs.check_header.Goals as goal
 
 pub returns-then-input-lt5 : goal.returns-then-input-lt5

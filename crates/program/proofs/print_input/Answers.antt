@@ -3,7 +3,6 @@ use native.Mathlib.Omega.{arith}
 use Rattle.model.specs.Report.{header_lines}
 use Rattle.program.proofs.Stages.{refused_here, passed_here}
 use Rattle.program.proofs.Whole.{printed}
-use borrow.Author.Rules.{rules}
 use Rattle.program.proofs.print_input.Goals as goal
 
 pub returns-in-Refused : goal.returns-in-Refused

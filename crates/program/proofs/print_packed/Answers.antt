@@ -1,13 +1,11 @@
 -- `program::print_packed` meets its contract. Assumes nothing.
 use mathlib.Core.Path.{sym}
-use Prim.Native.Nat.{◌*◌, ◌≤◌}
 use native.Mathlib.Omega.{arith}
 use lib.Seq.{length-take-le}
 use Rattle.model.specs.Packed.{ground_in, query_in}
 use Rattle.model.specs.Report.{reading_lines, check_lines}
 use Rattle.model.proofs.Packed.{query_said, cells_kept, words_kept, cells_there, words_there, ground_said}
 use Rattle.program.proofs.Stages.{refused_here, passed_here, as_said}
-use borrow.Author.Rules.{rules}
 use Rattle.program.proofs.print_packed.Goals as goal
 
 pub returns-in-Refused : goal.returns-in-Refused

@@ -2,7 +2,6 @@
 use mathlib.Core.Path.{ap}
 use Rattle.model.specs.Report.{refused_text}
 use Rattle.text.proofs.Chain.{said}
-use borrow.Author.Rules.{rules}
 use Rattle.program.proofs.print_refusal.Goals as goal
 
 pub returns : goal.returns

@@ -2,7 +2,6 @@
 use mathlib.Core.Path.{sym}
 use lib.Seq.{length-take-le}
 use Rattle.program.proofs.Long.{read_prints}
-use borrow.Author.Rules.{rules}
 use Rattle.program.proofs.run.Goals as goal
 
 pub slice_bounds-print_input-end : goal.slice_bounds-print_input-end
