@@ -6,16 +6,16 @@ use Rattle.marks.specs.Marks.{mark_of}
 
 -- something covers the place i of the counts
 abbrev pub covered : List ℕ → List ℕ → ℕ → Bool
-covered ground plan i = ltb 0 (get_or ground i 0) || ltb 0 (get_or plan i 0)
+covered base plan i = ltb 0 (get_or base i 0) || ltb 0 (get_or plan i 0)
 
 -- n marks from place to on, by the counts from place from on
-pub record Row (to from n : ℕ) (ground plan was now : List ℕ) : Type 0 where
-  pub mark : (i : ℕ) → i < n → get_or now (to + i) 0 ≡ mark_of (covered ground plan (from + i))
+pub record Row (to from n : ℕ) (base plan was now : List ℕ) : Type 0 where
+  pub mark : (i : ℕ) → i < n → get_or now (to + i) 0 ≡ mark_of (covered base plan (from + i))
   pub rest : (k : ℕ) → (k < to) ⊎ (to + n ≤ k) → get_or now k 0 ≡ get_or was k 0
 
 -- the marks of the first rows of a window w centers wide, from place at on
-pub record Part (at w rows : ℕ) (ground plan was now : List ℕ) : Type 0 where
-  pub mark : (x y : ℕ) → x < w → y < rows → get_or now (at + (y * w + x)) 0 ≡ mark_of (covered ground plan (y * (w + 1) + x))
+pub record Part (at w rows : ℕ) (base plan was now : List ℕ) : Type 0 where
+  pub mark : (x y : ℕ) → x < w → y < rows → get_or now (at + (y * w + x)) 0 ≡ mark_of (covered base plan (y * (w + 1) + x))
   pub rest : (k : ℕ) → (k < at) ⊎ (at + rows * w ≤ k) → get_or now k 0 ≡ get_or was k 0
 
 -- Both parts of the marks of a window of w by h centers, by the ground's counts alone and by both. The counts are zero afterwards.
