@@ -1,7 +1,6 @@
 -- `bench_c::along` meets its contract. Assumes nothing.
 use native.Mathlib.Omega.{arith}
 use borrow.Author.Tests.{leb-true}
-use borrow.Author.Rules.{rules}
 use Rattle.bench_c.proofs.Tested.{never}
 use Rattle.bench_c.proofs.along.Goals as goal
 

@@ -1,11 +1,8 @@
 -- `bench_c::bench_c_marks` marks as marking requires. Assumes nothing.
 use native.Mathlib.Omega.{arith}
 use lib.ListN.{length}
-use borrow.Author.Tests.{not-false}
-use borrow.Author.Rules.{rules}
 use Rattle.bench_c.specs.Ready.{Markable}
 use Rattle.bench_c.proofs.Tested.{windowed, base_room, planned_room, marks_room}
-use Rattle.bench_c.proofs.bench_c_marks.Goals.{Else-not-markable}
 use Rattle.bench_c.proofs.bench_c_marks.Goals as goal
 
 pub window_at-window-requires : goal.window_at-window-requires

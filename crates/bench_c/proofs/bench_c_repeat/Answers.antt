@@ -2,12 +2,9 @@
 use Prim.Native.Nat.{◌*◌}
 use native.Mathlib.Omega.{arith}
 use lib.ListN.{length}
-use borrow.Author.Tests.{not-false}
 use Rattle.route.proofs.Zeros.{blank_after}
 use Rattle.bench_c.specs.Ready.{Ready}
 use Rattle.bench_c.proofs.Tested.{product, window, held}
-use borrow.Author.Rules.{rules}
-use Rattle.bench_c.proofs.bench_c_repeat.Goals.{Else-not-inside-2}
 use Rattle.bench_c.proofs.bench_c_repeat.Goals as goal
 
 pub overflow_mul-n : goal.overflow_mul-n

@@ -1,7 +1,5 @@
 -- `bench_c::bench_c_route` calls the search as it must be called. Assumes nothing.
-use borrow.Author.Tests.{not-false}
 use Rattle.bench_c.proofs.Tested.{window, held}
-use borrow.Author.Rules.{rules}
 use Rattle.bench_c.proofs.bench_c_route.Goals as goal
 
 pub route-requires : goal.route-requires

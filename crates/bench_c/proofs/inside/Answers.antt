@@ -1,7 +1,6 @@
 -- `bench_c::inside` meets its contract. Assumes nothing.
 use native.Mathlib.Omega.{arith}
 use borrow.Author.Tests.{ltb-true}
-use borrow.Author.Rules.{rules}
 use Rattle.bench_c.proofs.Tested.{never}
 use Rattle.bench_c.proofs.inside.Goals as goal
 

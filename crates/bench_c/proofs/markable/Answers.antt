@@ -1,10 +1,7 @@
 -- `bench_c::markable` meets its contract. Assumes nothing.
 use native.Mathlib.Omega.{arith}
-use borrow.Author.Tests.{not-false}
-use borrow.Author.Rules.{rules}
 use Rattle.bench_c.specs.Ready.{Along}
 use Rattle.bench_c.proofs.Tested.{never, product}
-use Rattle.bench_c.proofs.markable.Goals.{Else-not-along-2}
 use Rattle.bench_c.proofs.markable.Goals as goal
 
 pub returns-then-not-along : goal.returns-then-not-along

@@ -1,6 +1,5 @@
 -- `bench_c::plan_of` meets its contract: at most 32 are counted. Assumes nothing.
 use Prim.Native.Nat.{◌-◌, ◌≤◌}
-use native.Mathlib.Omega.{arith}
 use Rattle.bench_c.proofs.plan_of.Given as goal
 
 abbrev pub invariant-loop-count : goal.invariant-loop-count

@@ -1,9 +1,8 @@
 -- `bench_c::repeat` calls the search as it must be called. The loop's invariant: the working areas are as they came. Assumes nothing.
-use mathlib.Core.Path.{◌≡◌, refl, sym, ap, subst, ◌∙◌}
-use Prim.Native.Nat.{◌*◌, ◌-◌, ◌≤◌}
+use mathlib.Core.Path.{refl, sym, ap, subst, ◌∙◌}
+use Prim.Native.Nat.{◌*◌, ◌-◌}
 use native.Mathlib.Omega.{arith}
 use lib.ListN.{length}
-use borrow.Author.Rules.{rules}
 use Rattle.search.specs.Places.{Blank}
 use Rattle.bench_c.proofs.repeat.Goals as goal
 

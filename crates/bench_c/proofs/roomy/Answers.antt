@@ -1,6 +1,5 @@
 -- `bench_c::roomy` meets its contract. Assumes nothing.
 use native.Mathlib.Omega.{arith}
-use borrow.Author.Rules.{rules}
 use Rattle.bench_c.proofs.Tested.{never, product}
 use Rattle.bench_c.proofs.roomy.Goals as goal
 

@@ -1,7 +1,6 @@
 -- `bench_c::window_at` meets its contract. Assumes nothing.
 use Prim.Native.Nat.{◌+◌}
 use native.Mathlib.Omega.{arith}
-use borrow.Author.Rules.{rules}
 use Rattle.numbers.proofs.Integers.{read_small}
 use Rattle.bench_c.proofs.window_at.Goals as goal
 

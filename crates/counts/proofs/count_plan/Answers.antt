@@ -1,6 +1,5 @@
 -- `counts::count_plan` meets its contract: cleared, stamped and finished. Assumes nothing.
 use native.Mathlib.Omega.{arith}
-use borrow.Author.Rules.{rules}
 use Rattle.stamps.proofs.Adding.{counted}
 use Rattle.counts.proofs.count_plan.Goals as goal
 

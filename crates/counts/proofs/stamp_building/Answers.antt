@@ -1,5 +1,4 @@
 -- `counts::stamp_building` meets its contract. Assumes nothing.
-use borrow.Author.Rules.{rules}
 use Rattle.model.specs.Boxes.{collision_box}
 use Rattle.counts.proofs.stamp_building.Goals as goal
 

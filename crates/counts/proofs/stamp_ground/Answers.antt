@@ -1,6 +1,5 @@
 -- `counts::stamp_ground` meets its contract: the map's edge, the unwalkable cells and the obstacles block a center. Assumes nothing.
 use native.Mathlib.Omega.{arith}
-use borrow.Author.Rules.{rules}
 use Rattle.stamps.proofs.Adding.{adds_then, adds_same}
 use Rattle.model.specs.Ground.{ground}
 use Rattle.counts.proofs.Blocking.{blocked_before_in_parts}

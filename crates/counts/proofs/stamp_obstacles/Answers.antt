@@ -1,12 +1,11 @@
 -- `counts::stamp_obstacles` meets its contract. The invariant: the first i obstacles are stamped. Assumes nothing.
 use mathlib.Core.Path.{◌≡◌, refl, sym, ap, ◌∙◌}
-use Prim.Native.Nat.{ℕ, ◌/◌, ◌-◌, ◌≤◌}
+use Prim.Native.Nat.{ℕ, ◌/◌, ◌-◌}
 use native.Mathlib.Omega.{arith}
 use lib.ListN.{length, get_or}
-use borrow.Author.Rules.{rules}
 use Rattle.model.specs.Check.{no_rect}
 use Rattle.model.specs.Ground.{rects}
-use Rattle.stamps.specs.Stamps.{Adds, among, stop}
+use Rattle.stamps.specs.Stamps.{among, stop}
 use Rattle.stamps.proofs.Adding.{adds_start, adds_next, adds_same}
 use Rattle.counts.proofs.Listed.{any_rects}
 use Rattle.counts.proofs.stamp_obstacles.Goals as goal

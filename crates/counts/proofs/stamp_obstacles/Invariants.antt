@@ -1,14 +1,10 @@
 -- `counts::stamp_obstacles` meets its contract. The invariant: the first i obstacles are stamped. Assumes nothing.
-use mathlib.Core.Path.{◌≡◌, refl, sym, ap, ◌∙◌}
-use Prim.Native.Nat.{ℕ, ◌/◌, ◌-◌, ◌≤◌}
-use native.Mathlib.Omega.{arith}
+use mathlib.Core.Path.{◌≡◌}
+use Prim.Native.Nat.{◌-◌, ◌≤◌}
 use lib.ListN.{length, get_or}
-use borrow.Author.Rules.{rules}
 use Rattle.model.specs.Check.{no_rect}
 use Rattle.model.specs.Ground.{rects}
 use Rattle.stamps.specs.Stamps.{Adds, among, stop}
-use Rattle.stamps.proofs.Adding.{adds_start, adds_next, adds_same}
-use Rattle.counts.proofs.Listed.{any_rects}
 use Rattle.counts.proofs.stamp_obstacles.Given as goal
 
 abbrev pub invariant-loop-i : goal.invariant-loop-i

@@ -1,14 +1,10 @@
 -- `counts::stamp_plan` meets its contract. The invariant: the first i buildings are stamped. Assumes nothing.
-use mathlib.Core.Path.{◌≡◌, refl, sym, ap, subst, ◌∙◌}
-use Prim.Native.Nat.{ℕ, ◌-◌, ◌≤◌}
-use native.Mathlib.Omega.{arith}
-use lib.ListN.{length, length-map, get_or}
-use borrow.Author.Rules.{rules}
-use Rattle.model.specs.declared.WallBuilding.{WallBuilding}
+use mathlib.Core.Path.{◌≡◌}
+use Prim.Native.Nat.{◌-◌, ◌≤◌}
+use lib.ListN.{length, get_or}
 use Rattle.model.specs.Boxes.{collision_box}
 use Rattle.stamps.specs.Stamps.{Adds, among, stop}
-use Rattle.stamps.proofs.Adding.{adds_start, adds_next, adds_same}
-use Rattle.counts.proofs.Listed.{any_first, same_default, building_of_zeros}
+use Rattle.counts.proofs.Listed.{building_of_zeros}
 use Rattle.counts.proofs.stamp_plan.Given as goal
 
 abbrev pub invariant-loop-i : goal.invariant-loop-i

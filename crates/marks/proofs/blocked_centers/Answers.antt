@@ -2,10 +2,7 @@
 use mathlib.Core.Path.{◌≡◌, refl, ◌∙◌}
 use Prim.Native.Nat.{◌+◌, ◌*◌, ◌-◌, ◌≤◌}
 use native.Mathlib.Omega.{arith}
-use lib.ListN.{length}
-use borrow.Author.Rules.{rules}
 use Rattle.numbers.proofs.Places.{rows_fit}
-use Rattle.marks.specs.Passes.{Part}
 use Rattle.marks.proofs.Filling.{part_none, part_more}
 use Rattle.marks.proofs.blocked_centers.Goals.{After-mark_row-arg-1}
 use Rattle.marks.proofs.blocked_centers.Goals as goal

@@ -1,12 +1,8 @@
 -- `marks::blocked_centers` meets its contract. The invariant: the first y rows are marked. Assumes nothing.
-use mathlib.Core.Path.{◌≡◌, refl, ◌∙◌}
-use Prim.Native.Nat.{◌+◌, ◌*◌, ◌-◌, ◌≤◌}
-use native.Mathlib.Omega.{arith}
+use mathlib.Core.Path.{◌≡◌}
+use Prim.Native.Nat.{◌-◌, ◌≤◌}
 use lib.ListN.{length}
-use borrow.Author.Rules.{rules}
-use Rattle.numbers.proofs.Places.{rows_fit}
 use Rattle.marks.specs.Passes.{Part}
-use Rattle.marks.proofs.Filling.{part_none, part_more}
 use Rattle.marks.proofs.blocked_centers.Given as goal
 
 abbrev pub invariant-loop-y : goal.invariant-loop-y

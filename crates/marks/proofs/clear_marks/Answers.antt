@@ -1,11 +1,9 @@
 -- `marks::clear_marks` meets its contract. The invariant: the first k marks are 0, and the rest is as it was. Assumes nothing.
 use mathlib.Core.Path.{◌≡◌}
-use mathlib.Core.List.{◌++◌}
-use Prim.Native.Nat.{◌≤◌, ◌-◌}
+use Prim.Native.Nat.{◌-◌}
 use native.Mathlib.Omega.{arith}
-use borrow.Author.Rules.{rules}
 use borrow.Author.Fill.{fill_more}
-use lib.ListN.{length, drop, replicate, length-set}
+use lib.ListN.{length-set}
 use Rattle.marks.proofs.clear_marks.Goals as goal
 
 pub bounds-marks-k : goal.bounds-marks-k

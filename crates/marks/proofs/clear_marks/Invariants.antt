@@ -2,10 +2,7 @@
 use mathlib.Core.Path.{◌≡◌}
 use mathlib.Core.List.{◌++◌}
 use Prim.Native.Nat.{◌≤◌, ◌-◌}
-use native.Mathlib.Omega.{arith}
-use borrow.Author.Rules.{rules}
-use borrow.Author.Fill.{fill_more}
-use lib.ListN.{length, drop, replicate, length-set}
+use lib.ListN.{length, drop, replicate}
 use Rattle.marks.proofs.clear_marks.Given as goal
 
 abbrev pub invariant-loop-k : goal.invariant-loop-k

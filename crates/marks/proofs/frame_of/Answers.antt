@@ -9,7 +9,6 @@ use mir.Syntax.{w32}
 use mir.Val.{SFits}
 use Rattle.numbers.proofs.Integers.{≡-nat}
 use Rattle.stamps.specs.declared.Frame.{Frame}
-use Rattle.marks.proofs.frame_of.Goals.{After-biased, After-biased-2}
 use Rattle.marks.proofs.frame_of.Goals as goal
 
 frame_path : {l t w h l' t' w' h' : ℕ} → l ≡ l' → t ≡ t' → w ≡ w' → h ≡ h'

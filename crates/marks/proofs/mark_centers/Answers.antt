@@ -2,7 +2,6 @@
 use Prim.Native.Nat.{◌+◌}
 use native.Mathlib.Omega.{arith}
 use native.Mathlib.Nat.{mul_comm}
-use borrow.Author.Rules.{rules}
 use Rattle.model.specs.Boxes.{width_of, height_of}
 use Rattle.model.specs.Ground.{ground}
 use Rattle.marks.proofs.Showing.{framed, shown}

@@ -1,10 +1,8 @@
 -- `marks::mark_row` meets its contract. The invariant: the first i centers of the row are marked. Assumes nothing.
 use mathlib.Core.Path.{◌≡◌, refl}
-use Prim.Native.Nat.{◌-◌, ◌≤◌}
+use Prim.Native.Nat.{◌-◌}
 use native.Mathlib.Omega.{arith}
-use lib.ListN.{length, length-set}
-use borrow.Author.Rules.{rules}
-use Rattle.marks.specs.Passes.{Row}
+use lib.ListN.{length-set}
 use Rattle.marks.proofs.Filling.{row_none, row_more}
 use Rattle.marks.proofs.mark_row.Goals as goal
 

@@ -1,11 +1,8 @@
 -- `marks::mark_row` meets its contract. The invariant: the first i centers of the row are marked. Assumes nothing.
-use mathlib.Core.Path.{◌≡◌, refl}
+use mathlib.Core.Path.{◌≡◌}
 use Prim.Native.Nat.{◌-◌, ◌≤◌}
-use native.Mathlib.Omega.{arith}
-use lib.ListN.{length, length-set}
-use borrow.Author.Rules.{rules}
+use lib.ListN.{length}
 use Rattle.marks.specs.Passes.{Row}
-use Rattle.marks.proofs.Filling.{row_none, row_more}
 use Rattle.marks.proofs.mark_row.Given as goal
 
 abbrev pub invariant-loop-i : goal.invariant-loop-i

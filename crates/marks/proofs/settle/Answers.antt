@@ -3,7 +3,6 @@ use mathlib.Core.Path.{◌∙◌}
 use mathlib.Core.Logic.{inr}
 use Prim.Native.Nat.{◌+◌, ◌*◌}
 use native.Mathlib.Omega.{arith}
-use borrow.Author.Rules.{rules}
 use Rattle.numbers.proofs.Lists.{same_rest}
 use Rattle.marks.proofs.Filling.{first_stays}
 use Rattle.marks.proofs.settle.Goals as goal

@@ -1,9 +1,6 @@
 -- `passage::judge` meets its contract. Assumes nothing.
-use borrow.Author.Rules.{rules}
 use mathlib.Core.Path.{◌≡◌, ◌∙◌}
-use mathlib.Core.List.{[], ◌∷◌}
 use Prim.Native.Nat.{ℕ}
-use types.Run.{miss}
 use Rattle.passage.specs.declared.Looked.TheVariants.{Led}
 use Rattle.passage.proofs.Looking.{lent_same, blank_same, led_told, shut_told}
 use Rattle.passage.proofs.judge.Goals as goal

@@ -1,9 +1,7 @@
 -- `passage::look` meets its contract. Assumes nothing.
-use borrow.Author.Rules.{rules}
 use Rattle.route.specs.Answer.{Clear}
 use mathlib.Core.Path.{refl}
 use Rattle.passage.proofs.Looking.{said_yes, said_no, led_by, none_by}
-use Rattle.passage.proofs.look.Goals.{After-find_route-way}
 use Rattle.passage.proofs.look.Goals as goal
 
 pub returns-then-not-is_clear : goal.returns-then-not-is_clear

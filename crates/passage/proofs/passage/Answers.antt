@@ -1,5 +1,4 @@
 -- `passage::passage` meets its contract. Assumes nothing.
-use borrow.Author.Rules.{rules}
 use native.Mathlib.Omega.{arith}
 use Rattle.model.specs.Ground.{ground}
 use Rattle.passage.specs.Passing.{pass_areas}

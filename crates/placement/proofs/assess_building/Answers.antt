@@ -2,8 +2,7 @@
 use mathlib.Core.Path.{◌≡◌, sym, subst}
 use Prim.Native.Nat.{◌+◌, ◌≤◌}
 use native.Mathlib.Omega.{arith}
-use borrow.Author.Rules.{rules}
-use lib.ListN.{length, get_or, length-map}
+use lib.ListN.{length, get_or}
 use Rattle.model.specs.declared.WallBuilding.{WallBuilding}
 use Rattle.model.specs.Ground.{ground, built}
 use Rattle.model.specs.Placement.{issues_of}
@@ -11,7 +10,6 @@ use Rattle.model.specs.Packed.{no_building}
 use Rattle.placement.specs.Assessed.{building_at}
 use Rattle.placement_issues.proofs.Plans.{built_at, fits_at}
 use Rattle.placement.proofs.Parts.{room_ground, room_obstacles, room_buildings, all_parts}
-use Rattle.placement.proofs.assess_building.Goals.{Start}
 use Rattle.placement.proofs.assess_building.Goals as goal
 
 pub boxes_of-boxes-requires : goal.boxes_of-boxes-requires

@@ -2,15 +2,13 @@
 use mathlib.Core.Path.{◌≡◌, sym, subst}
 use Prim.Native.Nat.{ℕ, ◌-◌, ◌≤◌}
 use native.Mathlib.Omega.{arith}
-use borrow.Author.Rules.{rules}
-use lib.ListN.{length, replicate, length-map}
+use lib.ListN.{length, replicate}
 use Rattle.model.specs.declared.WallPlacement.{WallPlacement}
-use Rattle.model.specs.Ground.{Ground, ground, obstacles, built}
+use Rattle.model.specs.Ground.{ground, obstacles, built}
 use Rattle.model.specs.Areas.{issue_room}
 use Rattle.issue_words.proofs.Puts.{put_length}
 use Rattle.placement_issues.proofs.Plans.{built_length}
 use Rattle.placement.proofs.Assessed.{SoFar, at_first, room_here, after_turn, at_last}
-use Rattle.placement.proofs.assess_placements.Goals.{At-loop-i, Start}
 use Rattle.placement.proofs.assess_placements.Goals as goal
 
 pub loop-i-init : goal.loop-i-init

@@ -1,5 +1,4 @@
 -- `placement::no_placement` meets its contract. Assumes nothing.
-use borrow.Author.Rules.{rules}
 use Rattle.placement.proofs.no_placement.Goals as goal
 
 pub returns : goal.returns

@@ -1,6 +1,5 @@
 -- `query::validate_ground` meets its contract: three stages in order. Assumes nothing.
 use mathlib.Core.Path.{sym, ◌∙◌}
-use borrow.Author.Rules.{rules}
 use Rattle.model.proofs.Lines.{stage_passed, stage_refused}
 use Rattle.query.proofs.validate_ground.Goals as goal
 

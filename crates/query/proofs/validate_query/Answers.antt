@@ -1,10 +1,8 @@
 -- `query::validate_query` meets its contract: the ground, then the query, then its buildings. Assumes nothing.
 use mathlib.Core.Path.{sym, ◌∙◌}
-use borrow.Author.Rules.{rules}
-use Rattle.model.specs.Ground.{Ground, ground}
+use Rattle.model.specs.Ground.{ground}
 use Rattle.model.proofs.Lines.{stage_passed, stage_refused}
 use Rattle.query.proofs.Runs.{query_runs, way_counted}
-use Rattle.query.proofs.validate_query.Goals.{Start}
 use Rattle.query.proofs.validate_query.Goals as goal
 
 pub returns-in_default : goal.returns-in_default

@@ -1,5 +1,4 @@
 -- `query_buildings::validate_building` meets its contract. Assumes nothing.
-use borrow.Author.Rules.{rules}
 use Rattle.model.specs.Refusal.{first, building_lines}
 use Rattle.query_buildings.proofs.One.{overflows, fits}
 use Rattle.query_buildings.proofs.validate_building.Goals as goal

@@ -1,11 +1,8 @@
 -- `query_buildings::validate_buildings` meets its contract: the lines that are left are those from building i on. Assumes nothing.
 use mathlib.Core.Path.{◌≡◌, refl, sym, ◌∙◌}
-use Prim.Native.Nat.{◌≤◌, ◌-◌}
+use Prim.Native.Nat.{◌-◌}
 use native.Mathlib.Omega.{arith}
-use lib.ListN.{length, drop, length-map}
-use borrow.Author.Rules.{rules}
-use Rattle.model.specs.Ground.{built}
-use Rattle.model.specs.Refusal.{first, building_lines}
+use lib.ListN.{length}
 use Rattle.query_buildings.proofs.One.{building_passed, building_refused, buildings_done}
 use Rattle.query_buildings.proofs.validate_buildings.Goals.{At-loop-i, Start}
 use Rattle.query_buildings.proofs.validate_buildings.Goals as goal

@@ -1,12 +1,9 @@
 -- `query_buildings::validate_buildings` meets its contract: the lines that are left are those from building i on. Assumes nothing.
-use mathlib.Core.Path.{◌≡◌, refl, sym, ◌∙◌}
+use mathlib.Core.Path.{◌≡◌}
 use Prim.Native.Nat.{◌≤◌, ◌-◌}
-use native.Mathlib.Omega.{arith}
-use lib.ListN.{length, drop, length-map}
-use borrow.Author.Rules.{rules}
+use lib.ListN.{drop}
 use Rattle.model.specs.Ground.{built}
 use Rattle.model.specs.Refusal.{first, building_lines}
-use Rattle.query_buildings.proofs.One.{building_passed, building_refused, buildings_done}
 use Rattle.query_buildings.proofs.validate_buildings.Given as goal
 
 abbrev pub invariant-loop-i : goal.invariant-loop-i

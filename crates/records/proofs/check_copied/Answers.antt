@@ -3,7 +3,6 @@ use Prim.Native.Nat.{◌*◌}
 use mathlib.Core.Path.{refl, sym}
 use native.Mathlib.Omega.{arith}
 use lib.Seq.{length-take-le}
-use borrow.Author.Rules.{rules}
 use Rattle.records.proofs.check_copied.Goals as goal
 
 pub returns-in_default : goal.returns-in_default

@@ -1,5 +1,4 @@
 -- `records::check_wall_records` meets its contract: the copying, and then what follows from it. Assumes nothing.
-use Rattle.model.specs.Check.{CheckAreas}
 use Rattle.records.proofs.Onward.{enough, joined}
 use Rattle.records.proofs.check_wall_records.Goals as goal
 

@@ -9,7 +9,6 @@ use Rattle.model.specs.Report.{issue_line, placement_line, placement_lines}
 use Rattle.report.specs.Printing.{issue_sum}
 use Rattle.text.proofs.Chain.{Going, started, went, said, next_fits}
 use Rattle.report.proofs.Buildings.{nth, sum_next, one_building, no_building_left}
-use Rattle.report.proofs.put_placements.Goals.{In-loop-i, Start}
 use Rattle.report.proofs.put_placements.Goals as goal
 
 pub loop-i-init : goal.loop-i-init

@@ -1,14 +1,10 @@
 -- `report::put_placements` meets its contract. At turn i the lines of the buildings from i on are left, and the words from `from` on are theirs. Assumes nothing.
-use mathlib.Core.Path.{◌≡◌, refl, ap}
-use mathlib.Core.List.{List, ◌++◌, flat_map}
-use Prim.Native.Nat.{ℕ, ◌+◌, ◌-◌, ◌≤◌}
-use native.Mathlib.Omega.{arith}
+use mathlib.Core.Path.{◌≡◌}
+use Prim.Native.Nat.{◌+◌, ◌-◌, ◌≤◌}
 use lib.ListN.{length, take, drop}
-use Rattle.model.specs.declared.WallPlacement.{WallPlacement}
-use Rattle.model.specs.Report.{issue_line, placement_line, placement_lines}
+use Rattle.model.specs.Report.{placement_lines}
 use Rattle.report.specs.Printing.{issue_sum}
-use Rattle.text.proofs.Chain.{Going, started, went, said, next_fits}
-use Rattle.report.proofs.Buildings.{nth, sum_next, one_building, no_building_left}
+use Rattle.text.proofs.Chain.{Going}
 use Rattle.report.proofs.put_placements.Given as goal
 
 abbrev pub invariant-loop-i : goal.invariant-loop-i

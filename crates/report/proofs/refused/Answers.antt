@@ -1,5 +1,4 @@
 -- `report::refused` meets its contract. Assumes nothing.
-use borrow.Author.Rules.{rules}
 use native.Mathlib.Omega.{arith}
 use Rattle.model.specs.Report.{refused_text}
 use Rattle.report.proofs.Sizes.{refused_short}

@@ -1,5 +1,4 @@
 -- `report::report` meets its contract. Assumes nothing.
-use borrow.Author.Rules.{rules}
 use mathlib.Core.Path.{sym}
 use mathlib.Core.List.{List, flat_map}
 use Prim.Native.Nat.{ℕ, ◌+◌, ◌≤◌}
@@ -12,7 +11,6 @@ use Rattle.report_passage.specs.Passage.{passage_text}
 use Rattle.text.proofs.Chain.{then, said}
 use Rattle.report.proofs.Lines.{report_text_in_parts, report_length}
 use Rattle.report.proofs.Sizes.{report_short}
-use Rattle.report.proofs.report.Goals.{Start}
 use Rattle.report.proofs.report.Goals as goal
 
 pub put_placements-passage-requires : goal.put_placements-passage-requires

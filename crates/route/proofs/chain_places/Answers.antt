@@ -2,7 +2,6 @@
 use mathlib.Core.Path.{refl}
 use Prim.Native.Nat.{◌*◌}
 use Rattle.route.proofs.Answering.{sought_says, zeros_again}
-use borrow.Author.Rules.{rules}
 use Rattle.route.proofs.chain_places.Goals as goal
 
 pub returns-then-not-opens : goal.returns-then-not-opens

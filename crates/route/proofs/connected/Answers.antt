@@ -3,7 +3,6 @@ use mathlib.Core.Path.{◌∙◌}
 use Prim.Native.Nat.{◌*◌}
 use native.Mathlib.Omega.{arith}
 use Rattle.route.proofs.Zeros.{blank_after}
-use borrow.Author.Rules.{rules}
 use Rattle.route.proofs.connected.Goals as goal
 
 pub find_chain-requires : goal.find_chain-requires

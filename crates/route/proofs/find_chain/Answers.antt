@@ -3,7 +3,6 @@ use mathlib.Core.Path.{sym}
 use Prim.Native.Nat.{◌*◌}
 use Rattle.route.proofs.Answering.{says_out, part_long, part_blank, part_back}
 use native.Mathlib.Omega.{arith}
-use borrow.Author.Rules.{rules}
 use Rattle.route.proofs.find_chain.Goals as goal
 
 pub slice_bounds-chain_places-end-2 : goal.slice_bounds-chain_places-end-2

@@ -2,7 +2,6 @@
 use mathlib.Core.Path.{sym}
 use Prim.Native.Nat.{◌*◌}
 use Rattle.route.proofs.Answering.{answers_at, part_long, part_blank, part_back}
-use borrow.Author.Rules.{rules}
 use Rattle.route.proofs.find_route.Goals as goal
 
 pub slice_bounds-route_places-end-2 : goal.slice_bounds-route_places-end-2

@@ -1,7 +1,6 @@
 -- `route::forget` meets its contract. Assumes nothing.
 use mathlib.Core.Path.{◌∙◌}
 use Rattle.route.proofs.Zeros.{cleared_whole}
-use borrow.Author.Rules.{rules}
 use Rattle.route.proofs.forget.Goals as goal
 
 pub returns : goal.returns

@@ -1,5 +1,4 @@
 -- `route::is_clear` meets its contract. Assumes nothing.
-use borrow.Author.Rules.{rules}
 use Rattle.route.proofs.Answering.{mark_says}
 use Rattle.route.proofs.is_clear.Goals as goal
 

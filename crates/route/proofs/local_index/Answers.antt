@@ -4,7 +4,6 @@ use Prim.Native.Nat.{◌+◌, ◌*◌, ◌-◌, ◌<◌}
 use native.Mathlib.Omega.{arith}
 use Rattle.search.specs.Places.{spot}
 use Rattle.route.proofs.Answering.{index_in, index_spot}
-use borrow.Author.Rules.{rules}
 use Rattle.route.proofs.local_index.Goals.{After-wide-2}
 use Rattle.route.proofs.local_index.Goals as goal
 

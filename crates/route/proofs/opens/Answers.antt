@@ -2,7 +2,6 @@
 use mathlib.Core.Path.{◌∙◌}
 use native.Mathlib.Omega.{arith}
 use Rattle.route.proofs.Answering.{start_shut, end_decides}
-use borrow.Author.Rules.{rules}
 use Rattle.route.proofs.opens.Goals as goal
 
 pub returns-then-mark-ne0 : goal.returns-then-mark-ne0

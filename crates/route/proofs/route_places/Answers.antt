@@ -3,7 +3,6 @@ use mathlib.Core.Path.{refl, ◌∙◌}
 use Prim.Native.Nat.{◌*◌}
 use native.Mathlib.Omega.{arith}
 use Rattle.route.proofs.Answering.{shut_out, told_answer, zeros_again}
-use borrow.Author.Rules.{rules}
 use Rattle.route.proofs.route_places.Goals as goal
 
 pub returns-then-not-opens : goal.returns-then-not-opens

@@ -1,6 +1,5 @@
 -- `route::tell` meets its contract. Assumes nothing.
 use mathlib.Core.Path.{refl}
-use borrow.Author.Rules.{rules}
 use Rattle.route.proofs.tell.Goals as goal
 
 pub returns-then-not-found : goal.returns-then-not-found

@@ -1,7 +1,6 @@
 -- `route::tidy` meets its contract. Assumes nothing.
 use mathlib.Core.Path.{◌∙◌}
 use Rattle.route.proofs.Zeros.{rest_zero}
-use borrow.Author.Rules.{rules}
 use Rattle.route.proofs.tidy.Goals as goal
 
 pub returns : goal.returns

@@ -1,5 +1,4 @@
 -- `route_list::arrives` meets its contract. Assumes nothing.
-use borrow.Author.Rules.{rules}
 use mathlib.Core.Path.{refl}
 use Rattle.model.specs.RouteTest.{leads_to}
 use Rattle.route_list.proofs.arrives.Goals as goal

@@ -1,5 +1,4 @@
 -- `route_list::follows` meets its contract. Assumes nothing.
-use borrow.Author.Rules.{rules}
 use mathlib.Core.Path.{refl}
 use Rattle.model.specs.RouteTest.{follows}
 use Rattle.route_list.proofs.follows.Goals as goal

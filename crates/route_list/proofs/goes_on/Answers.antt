@@ -1,5 +1,4 @@
 -- `route_list::goes_on` meets its contract. Assumes nothing.
-use borrow.Author.Rules.{rules}
 use mathlib.Core.Path.{refl}
 use Rattle.route_list.proofs.goes_on.Goals as goal
 

@@ -1,5 +1,4 @@
 -- `route_list::is_free` meets its contract. Assumes nothing.
-use borrow.Author.Rules.{rules}
 use native.Mathlib.Omega.{arith}
 use Rattle.route_list.proofs.Reading.{outside, marked}
 use Rattle.route_list.proofs.is_free.Goals as goal

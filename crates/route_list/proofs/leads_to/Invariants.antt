@@ -1,18 +1,12 @@
 -- `route_list::leads_to` meets its contract. The invariant: the points from the first on lead to the end as those from i on do. Assumes nothing.
-use borrow.Author.Rules.{rules}
-use borrow.Author.Tests.{not-true, not-false}
-use mathlib.Core.Path.{◌≡◌, refl, sym, ap, ◌∙◌}
-use mathlib.Core.Bool.{Bool, ◌&&◌}
-use mathlib.Core.List.{[]}
+use mathlib.Core.Path.{◌≡◌}
+use mathlib.Core.Bool.{Bool}
 use Prim.Native.Nat.{ℕ, ◌+◌, ◌-◌, ◌≤◌}
-use native.Mathlib.Omega.{arith}
 use lib.Dec.{T}
 use lib.ListN.{length}
-use Rattle.model.specs.declared.PixelPosition.{PixelPosition}
-use Rattle.model.specs.RouteTest.{leads_to}
 use Rattle.model.proofs.Shifted.{Agree}
 use Rattle.marks.specs.Marks.{Unmarked}
-use Rattle.route_list.proofs.Reading.{From, from_told, from_last}
+use Rattle.route_list.proofs.Reading.{From}
 use Rattle.route_list.proofs.leads_to.Given as goal
 
 abbrev pub invariant-loop-i : goal.invariant-loop-i

@@ -1,5 +1,4 @@
 -- `route_list::near` meets its contract. Assumes nothing.
-use borrow.Author.Rules.{rules}
 use native.Mathlib.Omega.{arith}
 use Rattle.route_list.proofs.Reading.{near_up, near_down}
 use Rattle.route_list.proofs.near.Goals as goal

@@ -1,10 +1,9 @@
 -- `search::around` meets its contract. The loop's invariant: what the steps below k lead to is known. Assumes nothing.
-use mathlib.Core.Path.{◌≡◌, refl, ◌∙◌}
+use mathlib.Core.Path.{refl, ◌∙◌}
 use mathlib.Core.List.{[]}
-use Prim.Native.Nat.{ℕ, ◌-◌, ◌≤◌, ◌<◌}
+use Prim.Native.Nat.{ℕ, ◌-◌}
 use native.Mathlib.Omega.{arith}
-use lib.ListN.{length, get_or, length-set}
-use borrow.Author.Rules.{rules}
+use lib.ListN.{get_or, length-set}
 use Rattle.model.specs.Steps.{steps}
 use Rattle.marks.specs.Marks.{Unmarked}
 use Rattle.search.specs.Places.{Seen}

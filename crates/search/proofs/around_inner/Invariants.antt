@@ -1,15 +1,11 @@
 -- `search::around_inner` meets its contract. The loop's invariant: what the steps below k lead to is known. Assumes nothing.
-use mathlib.Core.Path.{◌≡◌, refl, ap, ◌∙◌}
+use mathlib.Core.Path.{◌≡◌}
 use mathlib.Core.List.{[]}
-use Prim.Native.Nat.{ℕ, ◌+◌, ◌-◌, ◌*◌, ◌≤◌, ◌<◌}
-use native.Mathlib.Omega.{arith}
-use lib.ListN.{length, get_or, length-set}
-use borrow.Author.Rules.{rules}
+use Prim.Native.Nat.{ℕ, ◌-◌, ◌≤◌, ◌<◌}
+use lib.ListN.{length, get_or}
 use Rattle.model.specs.Steps.{steps}
 use Rattle.marks.specs.Marks.{Unmarked}
-use Rattle.search.specs.Places.{Seen, ahead, eastward, southward}
-use Rattle.search.proofs.Centers.{place_in, window_small}
-use Rattle.search.proofs.Neighbours.{step_small, inner_stays, seen_mark, lands_in, filled_more}
+use Rattle.search.specs.Places.{Seen}
 use Rattle.search.proofs.around_inner.Given as goal
 
 abbrev pub invariant-loop-k : goal.invariant-loop-k

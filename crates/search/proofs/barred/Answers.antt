@@ -1,9 +1,8 @@
 -- `search::barred` meets its contract: each sum is 0 where its parts are. Assumes nothing.
-use Prim.Native.Nat.{ℕ, ◌≤◌}
+use Prim.Native.Nat.{◌≤◌}
 use native.Mathlib.Omega.{arith}
 use lib.ListN.{get_or}
 use Rattle.search.proofs.Corners.{corner_rule}
-use borrow.Author.Rules.{rules}
 use Rattle.search.proofs.barred.Goals as goal
 
 pub overflow_add-result : goal.overflow_add-result

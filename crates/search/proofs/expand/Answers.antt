@@ -6,8 +6,6 @@ use native.Mathlib.Omega.{arith}
 use Rattle.marks.specs.Marks.{Unmarked}
 use Rattle.search.proofs.Centers.{window_small}
 use Rattle.search.proofs.Noted.{noted_le}
-use borrow.Author.Rules.{rules}
-use Rattle.search.proofs.expand.Goals.{After-wide-p}
 use Rattle.search.proofs.expand.Goals as goal
 
 pub offset_bounds-queue-head : goal.offset_bounds-queue-head

@@ -3,14 +3,12 @@ use mathlib.Core.Path.{◌≡◌, refl, sym, subst, ◌∙◌}
 use Prim.Native.Nat.{ℕ, ◌-◌, ◌*◌, ◌≤◌, ◌<◌}
 use native.Mathlib.Omega.{arith}
 use lib.ListN.{length}
-use borrow.Author.Rules.{rules}
 use Rattle.marks.specs.Marks.{Unmarked}
 use Rattle.search.specs.Search.{Works, Bars, Growing}
 use Rattle.search.proofs.Centers.{place_in, window_small}
 use Rattle.search.proofs.Neighbours.{step_small}
 use Rattle.search.proofs.Corners.{bars_of}
 use Rattle.search.proofs.Trying.{tried_works, works_none, works_then}
-use Rattle.search.proofs.expand_edge.Goals.{At-loop-k}
 use Rattle.search.proofs.expand_edge.Goals as goal
 
 pub around-requires : goal.around-requires

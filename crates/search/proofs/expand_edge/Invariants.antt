@@ -1,15 +1,9 @@
 -- `search::expand_edge` meets its contract. The loop's invariant: the steps below k have been tried. Assumes nothing.
-use mathlib.Core.Path.{◌≡◌, refl, sym, subst, ◌∙◌}
-use Prim.Native.Nat.{ℕ, ◌-◌, ◌*◌, ◌≤◌, ◌<◌}
-use native.Mathlib.Omega.{arith}
+use mathlib.Core.Path.{◌≡◌}
+use Prim.Native.Nat.{◌-◌, ◌≤◌}
 use lib.ListN.{length}
-use borrow.Author.Rules.{rules}
 use Rattle.marks.specs.Marks.{Unmarked}
-use Rattle.search.specs.Search.{Works, Bars, Growing}
-use Rattle.search.proofs.Centers.{place_in, window_small}
-use Rattle.search.proofs.Neighbours.{step_small}
-use Rattle.search.proofs.Corners.{bars_of}
-use Rattle.search.proofs.Trying.{tried_works, works_none, works_then}
+use Rattle.search.specs.Search.{Works}
 use Rattle.search.proofs.expand_edge.Given as goal
 
 abbrev pub invariant-loop-k : goal.invariant-loop-k

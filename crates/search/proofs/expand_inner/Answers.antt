@@ -4,7 +4,6 @@ use mathlib.Core.List.{[]}
 use Prim.Native.Nat.{ℕ, ◌-◌, ◌*◌, ◌≤◌, ◌<◌}
 use native.Mathlib.Omega.{arith}
 use lib.ListN.{length, get_or}
-use borrow.Author.Rules.{rules}
 use Rattle.model.specs.Steps.{steps}
 use Rattle.marks.specs.Marks.{Unmarked}
 use Rattle.search.specs.Search.{Works, Bars, Growing}
@@ -12,7 +11,6 @@ use Rattle.search.proofs.Centers.{place_in, window_small}
 use Rattle.search.proofs.Neighbours.{step_small, inner_stays, lands_in}
 use Rattle.search.proofs.Corners.{bars_of}
 use Rattle.search.proofs.Trying.{tried_works, works_none, works_then}
-use Rattle.search.proofs.expand_inner.Goals.{At-loop-k}
 use Rattle.search.proofs.expand_inner.Goals as goal
 
 pub around_inner-requires : goal.around_inner-requires

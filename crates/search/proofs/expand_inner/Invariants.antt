@@ -1,17 +1,9 @@
 -- `search::expand_inner` meets its contract. The loop's invariant: the steps below k have been tried. Assumes nothing.
-use mathlib.Core.Path.{◌≡◌, refl, sym, subst, ◌∙◌}
-use mathlib.Core.List.{[]}
-use Prim.Native.Nat.{ℕ, ◌-◌, ◌*◌, ◌≤◌, ◌<◌}
-use native.Mathlib.Omega.{arith}
-use lib.ListN.{length, get_or}
-use borrow.Author.Rules.{rules}
-use Rattle.model.specs.Steps.{steps}
+use mathlib.Core.Path.{◌≡◌}
+use Prim.Native.Nat.{◌-◌, ◌≤◌}
+use lib.ListN.{length}
 use Rattle.marks.specs.Marks.{Unmarked}
-use Rattle.search.specs.Search.{Works, Bars, Growing}
-use Rattle.search.proofs.Centers.{place_in, window_small}
-use Rattle.search.proofs.Neighbours.{step_small, inner_stays, lands_in}
-use Rattle.search.proofs.Corners.{bars_of}
-use Rattle.search.proofs.Trying.{tried_works, works_none, works_then}
+use Rattle.search.specs.Search.{Works}
 use Rattle.search.proofs.expand_inner.Given as goal
 
 abbrev pub invariant-loop-k : goal.invariant-loop-k

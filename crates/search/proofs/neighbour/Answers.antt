@@ -4,11 +4,10 @@ use Prim.Native.Nat.{ℕ, ◌+◌, ◌*◌, ◌≤◌, ◌<◌}
 use native.Mathlib.Omega.{arith}
 use lib.ListN.{get_or}
 use lib.IntN.{pos}
-use borrow.Author.Rules.{rules, sfits_of}
+use borrow.Author.Rules.{sfits_of}
 use Rattle.search.specs.Places.{eastward, southward, ahead}
 use Rattle.search.proofs.Centers.{place_in, window_small}
 use Rattle.search.proofs.Neighbours.{read_back, seen_outside, Stays, seen_mark, lands_in}
-use Rattle.search.proofs.neighbour.Goals.{After-lifted, After-lifted-2, Else-south-h}
 use Rattle.search.proofs.neighbour.Goals as goal
 
 pub overflow_add-east : goal.overflow_add-east

@@ -1,11 +1,8 @@
 -- `search::seek` meets its contract. The loop's invariant: the entries before `head` are done, and the end is not among them. Assumes nothing.
-use mathlib.Core.Path.{◌≡◌, sym, ◌∙◌}
-use Prim.Native.Nat.{◌*◌, ◌-◌, ◌≤◌}
+use mathlib.Core.Path.{sym, ◌∙◌}
+use Prim.Native.Nat.{◌*◌, ◌-◌}
 use native.Mathlib.Omega.{arith}
-use lib.ListN.{length, length-set}
-use borrow.Author.Rules.{rules}
-use Rattle.marks.specs.Marks.{Unmarked}
-use Rattle.search.specs.Search.{Searching}
+use lib.ListN.{length-set}
 use Rattle.search.proofs.Frontier.{entry_free, found, not_found}
 use Rattle.search.proofs.Noted.{noted_le}
 use Rattle.search.proofs.Moves.{begun, taken_up, worked}

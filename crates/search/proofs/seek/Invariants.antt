@@ -1,15 +1,9 @@
 -- `search::seek` meets its contract. The loop's invariant: the entries before `head` are done, and the end is not among them. Assumes nothing.
-use mathlib.Core.Path.{◌≡◌, sym, ◌∙◌}
+use mathlib.Core.Path.{◌≡◌}
 use Prim.Native.Nat.{◌*◌, ◌-◌, ◌≤◌}
-use native.Mathlib.Omega.{arith}
-use lib.ListN.{length, length-set}
-use borrow.Author.Rules.{rules}
+use lib.ListN.{length}
 use Rattle.marks.specs.Marks.{Unmarked}
 use Rattle.search.specs.Search.{Searching}
-use Rattle.search.proofs.Frontier.{entry_free, found, not_found}
-use Rattle.search.proofs.Noted.{noted_le}
-use Rattle.search.proofs.Moves.{begun, taken_up, worked}
-use Rattle.search.proofs.Noted.{all_blank}
 use Rattle.search.proofs.seek.Given as goal
 
 abbrev pub invariant-loop-head : goal.invariant-loop-head

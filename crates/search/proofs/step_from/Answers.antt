@@ -5,7 +5,7 @@ use native.Mathlib.Nat.{mul-le-mul_right}
 use native.Mathlib.Omega.{arith}
 use lib.ListN.{get_or}
 use lib.IntN.{pos}
-use borrow.Author.Rules.{rules, sfits_of}
+use borrow.Author.Rules.{sfits_of}
 use Rattle.search.specs.Places.{eastward, southward}
 use Rattle.search.proofs.Neighbours.{read_back}
 use Rattle.search.proofs.step_from.Goals.{After-lifted-2}

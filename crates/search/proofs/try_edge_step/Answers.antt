@@ -1,7 +1,6 @@
 -- `search::try_edge_step` meets its contract. Assumes nothing.
 use native.Mathlib.Omega.{arith}
 use Rattle.search.proofs.Trying.{left_alone}
-use borrow.Author.Rules.{rules}
 use Rattle.search.proofs.try_edge_step.Goals as goal
 
 pub returns-then-bar-ne0 : goal.returns-then-bar-ne0

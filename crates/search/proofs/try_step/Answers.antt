@@ -6,8 +6,6 @@ use lib.ListN.{length, get_or}
 use Rattle.search.specs.Places.{ahead}
 use Rattle.search.proofs.Noted.{noted_room}
 use Rattle.search.proofs.Trying.{left_alone, put_in}
-use borrow.Author.Rules.{rules}
-use Rattle.search.proofs.try_step.Goals.{After-wide, Else-wide-bar-ne0}
 use Rattle.search.proofs.try_step.Goals as goal
 
 pub returns-then-wide-bar-ne0 : goal.returns-then-wide-bar-ne0

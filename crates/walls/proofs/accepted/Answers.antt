@@ -1,5 +1,4 @@
 -- `walls::accepted` meets its contract: the placements, then the passage. Assumes nothing.
-use borrow.Author.Rules.{rules}
 use Rattle.model.specs.Ground.{ground}
 use Rattle.marks.proofs.Showing.{valid_ready}
 use Rattle.placement.proofs.Plans.{assessable}

@@ -1,12 +1,10 @@
 -- `walls::check_wall` meets its contract. Assumes nothing.
-use borrow.Author.Rules.{rules}
 use mathlib.Core.Path.{refl}
-use Rattle.model.specs.Ground.{Ground, ground}
+use Rattle.model.specs.Ground.{ground}
 use Rattle.model.specs.Areas.{room_lines}
-use Rattle.model.specs.Check.{CheckAreas, check_rooms}
+use Rattle.model.specs.Check.{check_rooms}
 use Rattle.model.proofs.Enough.{check_enough}
 use Rattle.walls.proofs.Accepting.{all_valid, none_small}
-use Rattle.walls.proofs.check_wall.Goals.{Start}
 use Rattle.walls.proofs.check_wall.Goals as goal
 
 pub returns-in_default : goal.returns-in_default

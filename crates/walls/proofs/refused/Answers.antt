@@ -1,5 +1,4 @@
 -- `walls::refused` meets its contract. Assumes nothing.
-use borrow.Author.Rules.{rules}
 use mathlib.Core.Path.{refl}
 use Rattle.walls.proofs.refused.Goals as goal
 

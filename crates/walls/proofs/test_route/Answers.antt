@@ -1,13 +1,11 @@
 -- `walls::test_route` meets its contract. Assumes nothing.
-use borrow.Author.Rules.{rules}
 use mathlib.Core.Path.{refl}
 use Rattle.model.specs.Ground.{ground}
 use Rattle.model.specs.Areas.{room_lines}
-use Rattle.model.specs.RouteTest.{TestAreas, test_rooms}
+use Rattle.model.specs.RouteTest.{test_rooms}
 use Rattle.model.proofs.Enough.{test_enough}
 use Rattle.marks.specs.Marks.{areas}
 use Rattle.walls.proofs.Accepting.{all_valid, none_small}
-use Rattle.walls.proofs.test_route.Goals.{Start}
 use Rattle.walls.proofs.test_route.Goals as goal
 
 pub returns-in_default : goal.returns-in_default

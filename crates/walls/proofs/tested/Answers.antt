@@ -1,5 +1,4 @@
 -- `walls::tested` meets its contract: the marks, then the list against them. Assumes nothing.
-use borrow.Author.Rules.{rules}
 use native.Mathlib.Omega.{arith}
 use Rattle.model.specs.Ground.{ground}
 use Rattle.marks.specs.Marks.{areas}

@@ -1,11 +1,9 @@
 -- `walls::validate_check` meets its contract: 1 to 16, then 17. Assumes nothing.
-use borrow.Author.Rules.{rules}
 use mathlib.Core.Path.{sym, ◌∙◌}
 use native.Mathlib.Omega.{arith}
-use Rattle.model.specs.Ground.{Ground, ground}
+use Rattle.model.specs.Ground.{ground}
 use Rattle.model.proofs.Lines.{stage_passed, stage_refused}
 use Rattle.walls.proofs.Accepting.{queried, small, obstacle_count}
-use Rattle.walls.proofs.validate_check.Goals.{Start}
 use Rattle.walls.proofs.validate_check.Goals as goal
 
 pub returns-in_default : goal.returns-in_default

@@ -1,5 +1,4 @@
 -- `walls::validate_test` meets its contract: 1 to 16, then 17. Assumes nothing.
-use borrow.Author.Rules.{rules}
 use mathlib.Core.Path.{sym, ◌∙◌}
 use Rattle.model.specs.Ground.{ground}
 use Rattle.model.proofs.Lines.{stage_passed, stage_refused}

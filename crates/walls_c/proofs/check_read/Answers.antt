@@ -1,7 +1,6 @@
 -- `walls_c::check_read` meets its contract. Assumes nothing.
 use mathlib.Core.Path.{sym}
 use lib.Seq.{length-take-le}
-use borrow.Author.Rules.{rules}
 use Rattle.walls_c.proofs.check_read.Goals as goal
 
 pub slice_bounds-check_wall-end : goal.slice_bounds-check_wall-end

@@ -1,5 +1,4 @@
 -- `walls_c::walls_c_check` meets its contract. Assumes nothing.
-use borrow.Author.Rules.{rules}
 use Rattle.walls_c.proofs.Telling.{check_said}
 use Rattle.walls_c.proofs.walls_c_check.Goals as goal
 

@@ -1,7 +1,6 @@
 -- `walls_c::walls_c_check_packed` meets its contract. Assumes nothing.
 use Rattle.model.proofs.Packed.{cells_kept, words_kept}
 use Rattle.walls_c.proofs.Packed.{held, checked, not_read}
-use borrow.Author.Rules.{rules}
 use Rattle.walls_c.proofs.walls_c_check_packed.Goals as goal
 
 pub returns-in_default : goal.returns-in_default

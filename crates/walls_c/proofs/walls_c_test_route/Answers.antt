@@ -1,5 +1,4 @@
 -- `walls_c::walls_c_test_route` meets its contract. Assumes nothing.
-use borrow.Author.Rules.{rules}
 use Rattle.walls_c.proofs.Telling.{test_said}
 use Rattle.walls_c.proofs.walls_c_test_route.Goals as goal
 

@@ -1,7 +1,6 @@
 -- `way_back::point` meets its contract: the sums and the product fit, since the window's centers fit route words. Assumes nothing.
 use native.Mathlib.Omega.{arith}
 use Rattle.search.proofs.Centers.{center_in}
-use borrow.Author.Rules.{rules}
 use Rattle.way_back.proofs.point.Goals as goal
 
 pub nonzero_rem-result : goal.nonzero_rem-result

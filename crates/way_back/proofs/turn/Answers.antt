@@ -1,9 +1,9 @@
 -- `way_back::turn` meets its contract. The loop's invariant: the outer i words on each side stand turned round. Assumes nothing.
 use mathlib.Core.Path.{refl}
-use Prim.Native.Nat.{◌-◌, ◌≤◌}
+use Prim.Native.Nat.{◌-◌}
 use native.Mathlib.Omega.{arith}
 use lib.ListN.{get_or, length-set}
-use Rattle.way_back.proofs.Turning.{Turning, turning_next, turned_all}
+use Rattle.way_back.proofs.Turning.{turning_next, turned_all}
 use Rattle.way_back.proofs.turn.Goals as goal
 
 pub loop-i-init : goal.loop-i-init

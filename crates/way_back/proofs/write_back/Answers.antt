@@ -2,9 +2,8 @@
 use mathlib.Core.Path.{◌≡◌, sym, subst, subst₂, ◌∙◌}
 use Prim.Native.Nat.{ℕ, ◌+◌, ◌-◌}
 use native.Mathlib.Omega.{arith}
-use lib.ListN.{length, get_or, set, length-set}
-use borrow.Author.Rules.{rules}
-use Rattle.way_back.specs.Ways.{Short, Laid}
+use lib.ListN.{get_or, set, length-set}
+use Rattle.way_back.specs.Ways.{Laid}
 use Rattle.way_back.proofs.Tracing.{Laying, laying_begun, laying_room, laying_long, laying_more, laying_next, laid_all}
 use Rattle.way_back.proofs.write_back.Goals as goal
 

@@ -1,11 +1,8 @@
 -- `way_back::write_back` meets its contract. The loop's invariant: the words of the n places after p stand first, the end's before the others. Assumes nothing.
-use mathlib.Core.Path.{◌≡◌, sym, subst, subst₂, ◌∙◌}
-use Prim.Native.Nat.{ℕ, ◌+◌, ◌-◌}
-use native.Mathlib.Omega.{arith}
-use lib.ListN.{length, get_or, set, length-set}
-use borrow.Author.Rules.{rules}
-use Rattle.way_back.specs.Ways.{Short, Laid}
-use Rattle.way_back.proofs.Tracing.{Laying, laying_begun, laying_room, laying_long, laying_more, laying_next, laid_all}
+use Prim.Native.Nat.{◌-◌}
+use lib.ListN.{length}
+use Rattle.way_back.specs.Ways.{Short}
+use Rattle.way_back.proofs.Tracing.{Laying}
 use Rattle.way_back.proofs.write_back.Given as goal
 
 abbrev pub invariant-loop-p : goal.invariant-loop-p

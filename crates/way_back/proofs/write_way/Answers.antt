@@ -1,6 +1,5 @@
 -- `way_back::write_way` meets its contract. Assumes nothing.
 use native.Mathlib.Omega.{arith}
-use borrow.Author.Rules.{rules}
 use Rattle.way_back.proofs.Tracing.{laid_room, turned_written}
 use Rattle.way_back.proofs.write_way.Goals as goal
 
