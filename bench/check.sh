@@ -5,5 +5,5 @@ set -eu
 root=$(cd "$(dirname "$0")/.." && pwd)
 cd "$root"
 export CARGO_TARGET_DIR="$root/target/cargo"
-[ -n "${WALLS_C_DIR:-}" ] || rt staticlib walls_c
+[ -n "${WALLS_C_DIR:-}" ] || (cd crates/walls_c && rt lib)
 cargo run --offline --quiet --release --manifest-path compare/Cargo.toml --bin check_speed

@@ -4,8 +4,8 @@
 set -eu
 root=$(cd "$(dirname "$0")/.." && pwd)
 cd "$root"
-[ -n "${WALLS_C_DIR:-}" ] || rt staticlib walls_c
+[ -n "${WALLS_C_DIR:-}" ] || (cd crates/walls_c && rt lib)
 work=$(mktemp -d)
 trap 'rm -rf "$work"' EXIT
-rustc --edition 2021 -C opt-level=3 bench/read.rs -o "$work/read" -L "${WALLS_C_DIR:-target/staticlib}" -l static=walls_c
+rustc --edition 2021 -C opt-level=3 bench/read.rs -o "$work/read" -L "${WALLS_C_DIR:-crates/walls_c/out}" -l static=walls_c
 "$work/read"

@@ -11,6 +11,6 @@ awk '/^(fn (route|stamp_terrain_blockers|stamp_expanded|stamp_expanded_i64|block
     on { print }
     /^}/ { on = 0 }' "$ORIGINAL/walls.rs" >"$work/original.rs"
 cd "$root"
-rt staticlib bench_c >"$work/log" 2>&1 || { cat "$work/log"; exit 1; }
-BENCH_DIR=$work rustc --edition 2021 -C opt-level=3 bench/main.rs -o "$work/bench" -L target/staticlib -l static=bench_c
+(cd crates/bench_c && rt lib) >"$work/log" 2>&1 || { cat "$work/log"; exit 1; }
+BENCH_DIR=$work rustc --edition 2021 -C opt-level=3 bench/main.rs -o "$work/bench" -L crates/bench_c/out -l static=bench_c
 "$work/bench"

@@ -8,14 +8,14 @@ set -eu
 root=$(cd "$(dirname "$0")/.." && pwd)
 cd "$root"
 export CARGO_TARGET_DIR="$root/target/cargo"
-[ -n "${WALLS_C_DIR:-}" ] || rt staticlib walls_c
+[ -n "${WALLS_C_DIR:-}" ] || (cd crates/walls_c && rt lib)
 cargo test --offline --quiet --manifest-path bindings/rust/Cargo.toml
 cargo build --offline --quiet --release --manifest-path compare/Cargo.toml
 compare=$CARGO_TARGET_DIR/release/compare
 "$compare" run "${1:-200000}"
 if grep -q '^wall_report:' crates.txt; then
-    rt check wall_report
-    "$compare" program target/bin/wall_report 2000
+    [ -x crates/wall_report/out/wall_report ] || (cd crates/wall_report && rt run </dev/null >/dev/null)
+    "$compare" program crates/wall_report/out/wall_report 2000
 fi
 if command -v valgrind >/dev/null; then
     valgrind --quiet --leak-check=full --error-exitcode=9 "$compare" run 300

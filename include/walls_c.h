@@ -1,4 +1,4 @@
-/* The wall checker for C and what can call C: link target/staticlib/libwalls_c.a, which `rt staticlib walls_c` makes.
+/* The wall checker for C and what can call C: link crates/walls_c/out/libwalls_c.a, which `rt lib` in crates/walls_c makes.
  *
  * Every length and number is tested, so a call needs only this of its caller: each pointer leads to as many elements as the length
  * behind it says, and what a call writes (pointers that are not const) overlaps nothing else that it is lent. A pointer beside a length

@@ -6,8 +6,8 @@
 set -eu
 root=$(cd "$(dirname "$0")/.." && pwd)
 cd "$root"
-[ -n "${WALLS_C_DIR:-}" ] || rt staticlib walls_c
+[ -n "${WALLS_C_DIR:-}" ] || (cd crates/walls_c && rt lib)
 work=$(mktemp -d)
 trap 'rm -rf "$work"' EXIT
-"${CC:-cc}" -std=c99 -O1 -Wall -Wextra -Werror -I include replay/replay.c "${WALLS_C_DIR:-target/staticlib}/libwalls_c.a" -o "$work/replay"
+"${CC:-cc}" -std=c99 -O1 -Wall -Wextra -Werror -I include replay/replay.c "${WALLS_C_DIR:-crates/walls_c/out}/libwalls_c.a" -o "$work/replay"
 "$work/replay" replay/answers.txt

@@ -10,20 +10,20 @@ fn main() {
         None => in_repository(),
     };
     let library = folder.join("libwalls_c.a");
-    assert!(library.is_file(), "no {}: run `rt staticlib walls_c` at the repository's root, or name the folder that has it in WALLS_C_DIR", library.display());
+    assert!(library.is_file(), "no {}: run `rt lib` in crates/walls_c, or name the folder that has it in WALLS_C_DIR", library.display());
     println!("cargo:rerun-if-changed={}", library.display());
     println!("cargo:rustc-link-search=native={}", folder.display());
     println!("cargo:rustc-link-lib=static=walls_c");
 }
 
-// The folder where `rt staticlib` puts it, in this repository.
+// The folder where `rt lib` puts it, in this repository.
 fn in_repository() -> PathBuf {
     let here = env::var_os("CARGO_MANIFEST_DIR").expect("cargo names the package's folder");
-    let root = Path::new(&here).join("../..");
-    let folder = root.join("target/staticlib");
+    let made_by = Path::new(&here).join("../../crates/walls_c");
+    let folder = made_by.join("out");
     if !folder.join("libwalls_c.a").is_file() {
         // Where there is no kit, the assertion above says what is missing.
-        let _ = Command::new("rt").args(["staticlib", "walls_c"]).current_dir(&root).status();
+        let _ = Command::new("rt").arg("lib").current_dir(&made_by).status();
     }
     folder
 }
