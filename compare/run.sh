@@ -14,7 +14,7 @@ cargo build --offline --quiet --release --manifest-path compare/Cargo.toml
 compare=$CARGO_TARGET_DIR/release/compare
 "$compare" run "${1:-200000}"
 if grep -q '^wall_report:' crates.txt; then
-    [ -x crates/wall_report/out/wall_report ] || (cd crates/wall_report && rt run </dev/null >/dev/null)
+    (cd crates/wall_report && rt run </dev/null >/dev/null)
     "$compare" program crates/wall_report/out/wall_report 2000
 fi
 if command -v valgrind >/dev/null; then

@@ -85,7 +85,7 @@ fn accepted(
     route: &mut [u32],
 ) -> WallCheck
     requires valid { Valid (ground width height cells.now words.now) query }
-    requires check_enough { CheckEnough (ground width height cells.now words.now) query (record { issues = issues.now; base = base.old; plan = planned.old; marks = marks.old; parents = parents.old; queue = queue.old; route = route.old }) }
+    requires check_enough { CheckEnough (ground width height cells.now words.now) query (record { issues = issues.old; base = base.old; plan = planned.old; marks = marks.old; parents = parents.old; queue = queue.old; route = route.old }) }
     ensures { Checked (ground width height cells.now words.now) query (record { issues = issues.old; base = base.old; plan = planned.old; marks = marks.old; parents = parents.old; queue = queue.old; route = route.old }) (record { issues = issues.new; base = base.new; plan = planned.new; marks = marks.new; parents = parents.new; queue = queue.new; route = route.new }) result }
 {
     let placements = placement::assess_placements(width, height, cells, words, query.plan, issues);
@@ -185,7 +185,7 @@ fn tested(
     planned: &mut [u32],
     marks: &mut [u8],
 ) -> bool
-    requires { Valid (ground width height cells.now words.now) query × TestEnough query (record { base = base.now; plan = planned.old; marks = marks.old }) }
+    requires { Valid (ground width height cells.now words.now) query × TestEnough query (record { base = base.old; plan = planned.old; marks = marks.old }) }
     ensures { TestLeaves (ground width height cells.now words.now) query list.now (record { base = base.old; plan = planned.old; marks = marks.old }) (record { base = base.new; plan = planned.new; marks = marks.new }) Outcome.Accepted result }
 {
     let window = query.window;
