@@ -22,8 +22,11 @@ GOAL = re.compile(r"(src/\S+?):(\d+):\d+: (.*)$")
 
 
 def function_at(source, line):
-    """The function that stands at the line, or the last one before it."""
-    names = re.findall(r"(?m)^\s*(?:pub )?(?:extern \"C\" )?fn (\w+)", "\n".join(source.splitlines()[:line]))
+    """The function that stands at the line, its attributes included, or the last one before it."""
+    lines = source.splitlines()
+    while lines[line - 1].lstrip().startswith("#["):
+        line += 1
+    names = re.findall(r"(?m)^\s*(?:pub )?(?:extern \"C\" )?fn (\w+)", "\n".join(lines[:line]))
     return names[-1] if names else None
 
 
