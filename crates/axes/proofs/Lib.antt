@@ -1,2 +1,2 @@
 -- Laws of a building's sides on one axis.
-pub mod Sides
+pub mod Held

@@ -1,55 +1,30 @@
 // The search and the marks for another language to link. Every length and position is tested, so nothing is required.
 #![tactic(auto)]
 
-ghost use Rattle.std.specs.Prelude.{◌≡◌, true, ◌+◌, ◌*◌, ◌≤◌, ◌<◌, length};
+ghost use Rattle.std.specs.Prelude.{◌≡◌, true, ◌+◌, ◌≤◌, ◌<◌, length};
 ghost use Rattle.search.specs.Places.{Blank};
-ghost use Rattle.way_back.specs.Ways.{Window};
+ghost use Rattle.way_back.specs.Ways.{Window, size};
 ghost use Rattle.route.specs.Answer.{Inside, Lent};
 ghost use Rattle.bench_c.specs.Ready.{Ready, Along, Long, Markable, window_at};
 
 use model::{
-    CollisionBounds, DepotFootprint, PixelPosition, PixelRect, Plan, TilePosition, WallBuilding,
+    CollisionBounds, DepotFootprint, Ground, PixelPosition, PixelRect, Plan, TilePosition,
+    WallBuilding,
 };
-use route::Way;
+use stamps::Frame;
 
 // Whether the areas are long enough for w by h centers, at most 1,024 a side.
 fn ready(w: usize, h: usize, marks: usize, parents: usize, queue: usize, out: usize) -> bool
     ensures { result ≡ true → Ready w h marks parents queue out }
 {
-    if w > 1024 {
-        return false;
-    }
-    if h > 1024 {
-        return false;
-    }
-    let n = w * h;
-    if marks < n {
-        return false;
-    }
-    if parents < n {
-        return false;
-    }
-    if queue < n {
-        return false;
-    }
-    out >= n
+    w <= 1024 && h <= 1024 && marks >= w * h && parents >= w * h && queue >= w * h && out >= w * h
 }
 
-// Whether (x, y) lies in a window of w by h centers at (0, 0).
+// Whether p lies in a window of w by h centers at (0, 0).
 fn inside(w: usize, h: usize, p: PixelPosition) -> bool
     ensures { result ≡ true → (p.x < w) × (p.y < h) }
 {
-    if search::wide(p.x) >= w {
-        return false;
-    }
-    search::wide(p.y) < h
-}
-
-fn points(r: Way) -> usize {
-    match r {
-        Way::Found(n) => n,
-        Way::NoWay => 0,
-    }
+    (p.x as usize) < w && (p.y as usize) < h
 }
 
 // The number of the route's points, which stand in `out`, in the window at (0, 0); 0 where there is no route, or where an
@@ -81,14 +56,19 @@ pub extern "C" fn bench_c_route(
     if !inside(w, h, end) {
         return 0;
     }
-    points(route::route(marks, w, h, 0, 0, parents, queue, out, start, end))
+    let frame = Frame {
+        left: 0,
+        top: 0,
+        width: w,
+        height: h,
+    };
+    route::route(marks, frame, parents, queue, out, start, end).unwrap_or(0)
 }
 
 // Searches `times` times in areas that are zeros.
 fn repeat(
     marks: &[u8],
-    w: usize,
-    h: usize,
+    frame: Frame,
     parents: &mut [u32],
     queue: &mut [u32],
     out: &mut [u32],
@@ -96,15 +76,13 @@ fn repeat(
     end: PixelPosition,
     times: usize,
 ) -> usize
-    requires window { Window 0 0 w h × Inside 0 0 w h start × Inside 0 0 w h end }
-    requires lent { Lent w h marks.now parents.old queue.old × (w * h ≤ length out.old) }
-    requires blank { Blank (w * h) parents.old × Blank (w * h) queue.old }
+    requires window { Window frame × Inside frame start × Inside frame end }
+    requires lent { Lent frame marks.now parents.old queue.old × (size frame ≤ length out.old) }
+    requires blank { Blank (size frame) parents.old × Blank (size frame) queue.old }
 {
     let mut found = 0;
-    let mut i = 0;
-    while i < times {
-        found = points(route::find_route(marks, w, h, 0, 0, parents, queue, out, start, end));
-        i += 1;
+    for _ in 0..times {
+        found = route::find_route(marks, frame, parents, queue, out, start, end).unwrap_or(0);
     }
     found
 }
@@ -139,29 +117,22 @@ pub extern "C" fn bench_c_repeat(
     if !inside(w, h, end) {
         return 0;
     }
-    let n = w * h;
-    grid::clear(parents, n);
-    grid::clear(queue, n);
-    repeat(marks, w, h, parents, queue, out, start, end, times)
+    let frame = Frame {
+        left: 0,
+        top: 0,
+        width: w,
+        height: h,
+    };
+    parents[..w * h].fill(0);
+    queue[..w * h].fill(0);
+    repeat(marks, frame, parents, queue, out, start, end, times)
 }
 
 // Whether so many centers from start on lie along a side of so many cells, within the caps.
 fn along(start: usize, size: usize, cells: usize) -> bool
     ensures { result ≡ true → Along start size cells }
 {
-    if size == 0 {
-        return false;
-    }
-    if size > 1024 {
-        return false;
-    }
-    if cells > 1024 {
-        return false;
-    }
-    if start > 8192 {
-        return false;
-    }
-    start + size <= 8 * cells
+    size > 0 && size <= 1024 && cells <= 1024 && start <= 8192 && start + size <= 8 * cells
 }
 
 // Whether the areas are long enough for the marks of w by h centers, at most 1,024 a side.
@@ -169,14 +140,8 @@ fn roomy(w: usize, h: usize, base: usize, planned: usize, marks: usize) -> bool
     requires { (w ≤ 1024) × (h ≤ 1024) }
     ensures { result ≡ true → Long w h base planned marks }
 {
-    let n = (w + 1) * (h + 1);
-    if base < n {
-        return false;
-    }
-    if planned < n {
-        return false;
-    }
-    marks >= 2 * (w * h)
+    let counts = (w + 1) * (h + 1);
+    base >= counts && planned >= counts && marks >= 2 * (w * h)
 }
 
 // The window of w by h centers at (left, top).
@@ -185,10 +150,10 @@ fn window_at(left: usize, top: usize, w: usize, h: usize) -> PixelRect
     ensures { result ≡ window_at left top w h }
 {
     PixelRect {
-        left: numbers::signed(left as u64),
-        top: numbers::signed(top as u64),
-        right: numbers::signed((left + w) as u64),
-        bottom: numbers::signed((top + h) as u64),
+        left: left as i32,
+        top: top as i32,
+        right: (left + w) as i32,
+        bottom: (top + h) as i32,
     }
 }
 
@@ -218,29 +183,10 @@ fn building_at(words: &[u32], at: usize) -> WallBuilding
 fn plan_of(words: &[u32]) -> Plan
     ensures { result.count ≤ 32 }
 {
-    let none = WallBuilding {
-        tile: TilePosition { x: 0, y: 0 },
-        footprint: DepotFootprint {
-            width_tiles: 0,
-            height_tiles: 0,
-        },
-        collision: CollisionBounds {
-            left: 0,
-            top: 0,
-            right: 0,
-            bottom: 0,
-        },
-    };
-    let mut buildings = [none; 32];
-    let given = words.len() / 8;
-    let mut count = 0;
-    while count < 32 {
-        if count >= given {
-            return Plan { buildings, count };
-        }
-        let building = building_at(words, 8 * count);
-        buildings[count] = building;
-        count += 1;
+    let mut buildings = [WallBuilding::default(); 32];
+    let count = (words.len() / 8).min(32);
+    for i in 0..count {
+        buildings[i] = building_at(words, 8 * i);
     }
     Plan { buildings, count }
 }
@@ -261,19 +207,11 @@ fn markable(
 ) -> bool
     ensures { result ≡ true → Markable width height cells words left top w h base planned marks }
 {
-    if !along(left, w, width) {
-        return false;
-    }
-    if !along(top, h, height) {
-        return false;
-    }
-    if cells != width * height {
-        return false;
-    }
-    if words > 32768 {
-        return false;
-    }
-    roomy(w, h, base, planned, marks)
+    along(left, w, width)
+        && along(top, h, height)
+        && cells == width * height
+        && words <= 32768
+        && roomy(w, h, base, planned, marks)
 }
 
 // Marks w by h centers at (left, top) for a mover of one extent to all sides. False, and nothing is written, where the map, the
@@ -317,8 +255,12 @@ pub extern "C" fn bench_c_marks(
         bottom: extent,
     };
     let buildings = plan_of(plan);
-    marks::mark_centers(
-        width, height, cells, words, window, mover, buildings, base, planned, marks,
-    );
+    let ground = Ground {
+        width,
+        height,
+        cells,
+        words,
+    };
+    marks::mark_centers(ground, window, mover, buildings, base, planned, marks);
     true
 }

@@ -1,29 +1,24 @@
 -- Laws of `bit_at` and `field_at`. Assumes nothing.
---     field-add      a field of m + n bits is one of m bits and one of n bits
 --     field_lt       a field of n bits is below 2 ^ n
---     field-byte     the eight bits of a byte are the byte
---     field-window   a field within the 40 bits from a byte on, as a quotient and a remainder of them
-use mathlib.Core.Path.{◌≡◌, refl, ap, ◌∙◌}
+--     field_add      a field of m + n bits is one of m bits and one of n bits
+--     field_byte     the eight bits of a byte are the byte
+--     field_window   a field within the 40 bits from a byte on, as a quotient and a remainder of them
+use mathlib.Core.Path.{◌≡◌, ap, ◌∙◌}
 use mathlib.Core.List.{List, ◌++◌}
 use Prim.Native.Nat.{ℕ, zero, suc, ◌+◌, ◌-◌, ◌*◌, ◌/◌, ◌%◌, ◌^◌, ◌≤◌, ◌<◌, min}
 use native.Mathlib.Nat.{add-zero, add-suc, pow-zero, pow-suc, add_assoc, mod-lt}
 use native.Mathlib.Omega.{arith}
 use lib.ListN.{get_or, drop, replicate}
-use lib.Dec.{lit<, ltb}
-use mathlib.Core.Bool.{cond}
-use lib.Pow.{high, low, shl_exact}
-use lib.IntN.{ℤ, pos, negsuc, ◌-ℤ◌}
-use mir.Syntax.{w32}
-use mir.Val.{to_z}
-use Rattle.numbers.proofs.Lists.{drop_replicate}
-use Rattle.numbers.proofs.Integers.{nat-≡, sub_nat, apart}
-use Rattle.model.specs.Packed.{bit_at, field_at, signed, word_in, point_in, no_building}
+use lib.Dec.{lit<}
+use lib.Pow.{high, low}
+use Rattle.std.proofs.lemmas.List.{drop-replicate}
+use Rattle.std.proofs.lemmas.Nat.{one_shl}
+use Rattle.model.specs.Packed.{bit_at, field_at, word_in, no_building}
 use Rattle.model.specs.Lists.{table}
-use Rattle.model.specs.declared.PixelPosition.{PixelPosition}
 use Rattle.model.specs.declared.WallBuilding.{WallBuilding}
 use Rattle.bits.specs.Reading.{AtWord}
 
-pub bit_lt : (s : List ℕ) (i : ℕ) → bit_at s i < 2
+bit_lt : (s : List ℕ) (i : ℕ) → bit_at s i < 2
 unfolding bit_at
 bit_lt s i = mod-lt (get_or s (i / 8) 0 / 2 ^ (7 - i % 8)) (lit< tt)
 
@@ -32,13 +27,13 @@ unfolding field_at
 field_lt s i zero = rw pow-zero (lit< tt)
 field_lt s i (suc n) = rw pow-suc (omega (arith, field_lt s i n, bit_lt s (i + n)))
 
-pub field_add : (s : List ℕ) (i m n : ℕ) → field_at s i (m + n) ≡ field_at s i m * 2 ^ n + field_at s (i + m) n
+field_add : (s : List ℕ) (i m n : ℕ) → field_at s i (m + n) ≡ field_at s i m * 2 ^ n + field_at s (i + m) n
 unfolding field_at
 field_add s i m zero = rw (add-zero, pow-zero) (omega arith)
 field_add s i m (suc n) =
     rw (add-suc m n, pow-suc, field_add s i m n, add_assoc i m n) (omega arith)
 
-pub bit_in : (s : List ℕ) (k j : ℕ) → j < 8 → bit_at s (8 * k + j) ≡ get_or s k 0 / 2 ^ (7 - j) % 2
+bit_in : (s : List ℕ) (k j : ℕ) → j < 8 → bit_at s (8 * k + j) ≡ get_or s k 0 / 2 ^ (7 - j) % 2
 unfolding bit_at
 bit_in s k j h =
     let q : (8 * k + j) / 8 ≡ k = omega arith in
@@ -47,24 +42,16 @@ bit_in s k j h =
 
 -- a byte's bits, put together from the top
 byte_bits : (b : ℕ) → b < 256 → (((((((0 * 2 + b / 128 % 2) * 2 + b / 64 % 2) * 2 + b / 32 % 2) * 2 + b / 16 % 2) * 2 + b / 8 % 2) * 2 + b / 4 % 2) * 2 + b / 2 % 2) * 2 + b / 1 % 2 ≡ b
-byte_bits b h =
-    let e7 : 0 * 2 + b / 128 % 2 ≡ b / 128 = omega arith in
-    let e6 : b / 128 * 2 + b / 64 % 2 ≡ b / 64 = omega arith in
-    let e5 : b / 64 * 2 + b / 32 % 2 ≡ b / 32 = omega arith in
-    let e4 : b / 32 * 2 + b / 16 % 2 ≡ b / 16 = omega arith in
-    let e3 : b / 16 * 2 + b / 8 % 2 ≡ b / 8 = omega arith in
-    let e2 : b / 8 * 2 + b / 4 % 2 ≡ b / 4 = omega arith in
-    let e1 : b / 4 * 2 + b / 2 % 2 ≡ b / 2 = omega arith in
-    rw (e7, e6, e5, e4, e3, e2, e1) (omega arith)
+byte_bits b h = omega arith
 
-pub field_byte : (s : List ℕ) (k : ℕ) → get_or s k 0 < 256 → field_at s (8 * k) 8 ≡ get_or s k 0
+field_byte : (s : List ℕ) (k : ℕ) → get_or s k 0 < 256 → field_at s (8 * k) 8 ≡ get_or s k 0
 unfolding field_at
 field_byte s k h =
     rw
     (bit_in s k 0 (lit< tt), bit_in s k 1 (lit< tt), bit_in s k 2 (lit< tt), bit_in s k 3 (lit< tt), bit_in s k 4 (lit< tt), bit_in s k 5 (lit< tt), bit_in s k 6 (lit< tt), bit_in s k 7 (lit< tt))
     (byte_bits (get_or s k 0) h)
 
-pub field_window : (s : List ℕ) (k o n : ℕ) → o + n ≤ 40 → field_at s (8 * k) 40 / 2 ^ (40 - (o + n)) % 2 ^ n ≡ field_at s (8 * k + o) n
+field_window : (s : List ℕ) (k o n : ℕ) → o + n ≤ 40 → field_at s (8 * k) 40 / 2 ^ (40 - (o + n)) % 2 ^ n ≡ field_at s (8 * k + o) n
 field_window s k o n h =
     let t = 40 - (o + n) in
     let e : 40 ≡ o + n + t = omega arith in
@@ -80,44 +67,30 @@ field_next s k j h =
     field_add s (8 * k) (8 * j) 8 ∙ rw (e, field_byte s (k + j) h)
 
 -- five bytes are their 40 bits
-pub field_five : (s : List ℕ) (k a b c d e : ℕ) → (a ≡ get_or s k 0) × (a < 256) → (b ≡ get_or s (k + 1) 0) × (b < 256) → (c ≡ get_or s (k + 2) 0) × (c < 256) → (d ≡ get_or s (k + 3) 0) × (d < 256) → (e ≡ get_or s (k + 4) 0) × (e < 256) → (((a * 256 + b) * 256 + c) * 256 + d) * 256 + e ≡ field_at s (8 * k) 40
-field_five s k a b c d e ha hb hc hd he =
-    let f0 : field_at s (8 * k) 8 ≡ get_or s k 0 = field_byte s k (omega arith) in
-    let f1 : field_at s (8 * k) 16 ≡ field_at s (8 * k) 8 * 256 + get_or s (k + 1) 0 = field_next s k 1 (omega arith) in
-    let f2 : field_at s (8 * k) 24 ≡ field_at s (8 * k) 16 * 256 + get_or s (k + 2) 0 = field_next s k 2 (omega arith) in
-    let f3 : field_at s (8 * k) 32 ≡ field_at s (8 * k) 24 * 256 + get_or s (k + 3) 0 = field_next s k 3 (omega arith) in
-    let f4 : field_at s (8 * k) 40 ≡ field_at s (8 * k) 32 * 256 + get_or s (k + 4) 0 = field_next s k 4 (omega arith) in
+pub field_five : (s : List ℕ) (k : ℕ) → ((i : ℕ) → get_or s i 0 < 256)
+    → (((get_or s k 0 * 256 + get_or s (k + 1) 0) * 256 + get_or s (k + 2) 0) * 256 + get_or s (k + 3) 0) * 256 + get_or s (k + 4) 0 ≡ field_at s (8 * k) 40
+field_five s k byte =
+    let f0 : field_at s (8 * k) 8 ≡ get_or s k 0 = field_byte s k (byte k) in
+    let f1 : field_at s (8 * k) 16 ≡ field_at s (8 * k) 8 * 256 + get_or s (k + 1) 0 = field_next s k 1 (byte (k + 1)) in
+    let f2 : field_at s (8 * k) 24 ≡ field_at s (8 * k) 16 * 256 + get_or s (k + 2) 0 = field_next s k 2 (byte (k + 2)) in
+    let f3 : field_at s (8 * k) 32 ≡ field_at s (8 * k) 24 * 256 + get_or s (k + 3) 0 = field_next s k 3 (byte (k + 3)) in
+    let f4 : field_at s (8 * k) 40 ≡ field_at s (8 * k) 32 * 256 + get_or s (k + 4) 0 = field_next s k 4 (byte (k + 4)) in
     omega arith
 
--- the power as the machine makes it
-pub one_shl : (n : ℕ) → n ≤ 32 → 1 * 2 ^ n % 2 ^ 64 ≡ 2 ^ n
-one_shl n h = shl_exact 1 n 64 (lit< tt) (omega arith) ∙ omega arith
-
--- what `take` computes is the field
+-- what `get` computes is the field
 pub field_taken : (s : List ℕ) (at n : ℕ) → n ≤ 32 → field_at s (8 * (at / 8)) 40 / 2 ^ (40 - (at % 8 + n)) % (1 * 2 ^ n % 2 ^ 64) ≡ field_at s at n
 field_taken s at n h =
     let e : 8 * (at / 8) + at % 8 ≡ at = omega arith in
-    rw one_shl (field_window s (at / 8) (at % 8) n (omega arith) ∙ ap (λ (i : ℕ). field_at s i n) e)
-
--- the machine's reading of 32 bits as a signed number
-turned : (w : ℕ) → w < 4294967296 → negsuc (4294967296 - suc w) ≡ pos w -ℤ pos 4294967296
-turned w h = nat-≡ (omega (arith, sub_nat (pos w) (pos 4294967296), apart (pos w -ℤ pos 4294967296)))
-
-pub signed_read : (w : ℕ) → w < 4294967296 → to_z w32 w ≡ signed w
-signed_read w h = ap (λ (z : ℤ). cond (ltb w 2147483648) (pos w) z) (turned w h)
+    rw (one_shl n 64 (omega arith)) (field_window s (at / 8) (at % 8) n (omega arith) ∙ ap (λ (i : ℕ). field_at s i n) e)
 
 -- what is read where word k begins is word k
 pub word_is : (s : List ℕ) (p k v : ℕ) → AtWord s p k → v ≡ field_at s p 32 → v ≡ word_in s k
 unfolding word_in
 word_is s p k v e h = h ∙ ap (λ (i : ℕ). field_at s i 32) e
 
--- the words of a point
-pub point_words : (s : List ℕ) (k : ℕ) {p : PixelPosition} → p ≡ point_in s k → (p.x ≡ word_in s k) × (p.y ≡ word_in s (k + 1))
-point_words s k e = (ap (λ (p : PixelPosition). p.x) e, ap (λ (p : PixelPosition). p.y) e)
-
 -- the buildings that a plan has read when it stops at i, which is n or 32
 pub plan_read : (f : ℕ → WallBuilding) (i n : ℕ) (bs d : List WallBuilding) → i ≡ min n 32 → d ≡ replicate 32 no_building → bs ≡ table f i ++ drop i d
     → bs ≡ table f (min n 32) ++ replicate (32 - n) no_building
 plan_read f i n bs d e h k =
-    k ∙ (ap (λ (l : List WallBuilding). table f i ++ drop i l) h ∙ (ap (λ (l : List WallBuilding). table f i ++ l) (drop_replicate i 32 no_building)
-    ∙ (let m : 32 - i ≡ 32 - n = omega arith in rw (m, e) refl)))
+    let rest : 32 - i ≡ 32 - n = omega arith in
+    rw (k, h, drop-replicate i 32 no_building, rest, e)

@@ -3,7 +3,7 @@
 
 ghost use Rattle.std.specs.Prelude.{◌≡◌, ◌++◌, ℕ, ◌+◌, ◌*◌, ◌^◌, ◌≤◌, ◌<◌, length, get_or, drop};
 ghost use Rattle.model.specs.Lists.{table};
-ghost use Rattle.model.specs.Packed.{field_at, signed, rect_in, point_in, extents_in, building_in, no_building};
+ghost use Rattle.model.specs.Packed.{field_at, signed, rect_in, point_in, extents_in, building_in};
 ghost use Rattle.bits.specs.Reading.{AtWord, Near, plan_in, query_from};
 
 use model::{
@@ -12,39 +12,15 @@ use model::{
 };
 
 // A position, in bits.
-#[derive(Clone, Copy)]
+#[derive(Clone, Copy, Debug, PartialEq, Eq)]
 pub struct Bits {
     pub at: usize,
 }
 
 // A value read, and the position past it.
-#[derive(Clone, Copy)]
-pub struct Got {
-    pub value: u32,
-    pub next: Bits,
-}
-
-#[derive(Clone, Copy)]
-pub struct GotRect {
-    pub rect: PixelRect,
-    pub next: Bits,
-}
-
-#[derive(Clone, Copy)]
-pub struct GotPoint {
-    pub point: PixelPosition,
-    pub next: Bits,
-}
-
-#[derive(Clone, Copy)]
-pub struct GotExtents {
-    pub extents: CollisionBounds,
-    pub next: Bits,
-}
-
-#[derive(Clone, Copy)]
-pub struct GotBuilding {
-    pub building: WallBuilding,
+#[derive(Clone, Copy, Debug, PartialEq, Eq)]
+pub struct Got<T> {
+    pub value: T,
     pub next: Bits,
 }
 
@@ -57,9 +33,9 @@ fn join(a: u8, b: u8, c: u8, d: u8, e: u8) -> u64
 
 // The byte at i, and 0 past the end.
 fn byte_or_0(s: &[u8], i: usize) -> u8
-    ensures { (result ≡ get_or s.now i 0) × (result < 256) }
+    ensures { result ≡ get_or s.now i 0 }
 {
-    if i < s.len() { s[i] } else { 0 }
+    s.get(i).copied().unwrap_or(0)
 }
 
 // The 40 bits of the five bytes at i, as one number. All five are there but at the very end, so the first path is the usual one.
@@ -82,35 +58,12 @@ fn five(s: &[u8], i: usize) -> u64
 pub fn to_signed(w: u32) -> i32
     ensures { result ≡ signed w }
 {
-    if w < 2147483648 {
-        w as i32
-    } else {
-        !(!w as i32)
-    }
-}
-
-// All zero.
-pub fn no_building() -> WallBuilding
-    ensures { result ≡ no_building }
-{
-    WallBuilding {
-        tile: TilePosition { x: 0, y: 0 },
-        footprint: DepotFootprint {
-            width_tiles: 0,
-            height_tiles: 0,
-        },
-        collision: CollisionBounds {
-            left: 0,
-            top: 0,
-            right: 0,
-            bottom: 0,
-        },
-    }
+    w.cast_signed()
 }
 
 impl Bits {
     // The next n bits, those past the end counted as 0, and the position past them.
-    pub fn get(self, s: &[u8], n: u32) -> Got
+    pub fn get(self, s: &[u8], n: u32) -> Got<u32>
         requires { (n ≤ 32) × (self.at < 4611686018427387904) }
         ensures { (result.value ≡ field_at s.now self.at n) × (result.next.at ≡ self.at + n) × (result.value < 2 ^ n) }
     {
@@ -124,111 +77,125 @@ impl Bits {
         }
     }
 
-    // count fields of 5 bits, to the start of out.
-    pub fn cells(self, s: &[u8], out: &mut [u8], count: usize) -> Bits
-        requires { (count ≤ length out.old) × (self.at + 5 * count < 4611686018427387904) }
-        ensures { (result.at ≡ self.at + 5 * count) × (out.new ≡ table (λ k. field_at s.now (self.at + 5 * k) 5) count ++ drop count out.old) }
+    // count fields of `width` bits, as `of` reads them, to the start of out.
+    fn fields<T: Copy, F: Fn(u32) -> T>(
+        self,
+        s: &[u8],
+        width: u32,
+        out: &mut [T],
+        count: usize,
+        of: F,
+    ) -> Bits
+        requires narrow { width ≤ 32 }
+        requires room { count ≤ length out.old }
+        requires near { Near self.at (width * count) }
+        requires callable { (v : ℕ) → v < 2 ^ width → F.pre of v }
+        ensures at { result.at ≡ self.at + width * count }
+        ensures filled { (f : ℕ → T) → ((v : ℕ) (y : T) → F.post of v y → y ≡ f v)
+            → out.new ≡ table (λ k. f (field_at s.now (self.at + width * k) width)) count ++ drop count out.old }
     {
         let mut cur = self;
-        let mut k = 0;
-        while k < count {
-            let got = cur.get(s, 5);
-            out[k] = got.value as u8;
+        for k in 0..count {
+            let got = cur.get(s, width);
+            out[k] = of(got.value);
             cur = got.next;
-            k += 1;
         }
         cur
+    }
+
+    // count fields of 5 bits, to the start of out.
+    pub fn cells(self, s: &[u8], out: &mut [u8], count: usize) -> Bits
+        requires { (count ≤ length out.old) × Near self.at (5 * count) }
+        ensures { (result.at ≡ self.at + 5 * count) × (out.new ≡ table (λ k. field_at s.now (self.at + 5 * k) 5) count ++ drop count out.old) }
+    {
+        self.fields(s, 5, out, count, |v| v as u8)
     }
 
     // count words of 32 bits, as signed numbers, to the start of out.
     pub fn words(self, s: &[u8], out: &mut [i32], count: usize) -> Bits
-        requires { (count ≤ length out.old) × (self.at + 32 * count < 4611686018427387904) }
+        requires { (count ≤ length out.old) × Near self.at (32 * count) }
         ensures { (result.at ≡ self.at + 32 * count) × (out.new ≡ table (λ k. signed (field_at s.now (self.at + 32 * k) 32)) count ++ drop count out.old) }
     {
-        let mut cur = self;
-        let mut k = 0;
-        while k < count {
-            let got = cur.get(s, 32);
-            let w = to_signed(got.value);
-            out[k] = w;
-            cur = got.next;
-            k += 1;
-        }
-        cur
+        self.fields(s, 32, out, count, to_signed)
     }
 
     // A point: x, y.
-    fn point(self, s: &[u8]) -> GotPoint
+    fn point(self, s: &[u8]) -> Got<PixelPosition>
         requires { Near self.at 64 }
-        ensures { (result.next.at ≡ self.at + 64) × ((k : ℕ) → AtWord s.now self.at k → result.point ≡ point_in s.now k) }
+        ensures at { result.next.at ≡ self.at + 64 }
+        ensures value { (k : ℕ) → AtWord s.now self.at k → result.value ≡ point_in s.now k }
     {
         let x = self.get(s, 32);
         let y = x.next.get(s, 32);
-        let point = PixelPosition {
-            x: x.value,
-            y: y.value,
-        };
-        let next = y.next;
-        GotPoint { point, next }
+        Got {
+            value: PixelPosition {
+                x: x.value,
+                y: y.value,
+            },
+            next: y.next,
+        }
     }
 
     // Four words: left, top, right, bottom.
-    fn extents(self, s: &[u8]) -> GotExtents
+    fn extents(self, s: &[u8]) -> Got<CollisionBounds>
         requires { Near self.at 128 }
-        ensures { (result.next.at ≡ self.at + 128) × ((k : ℕ) → AtWord s.now self.at k → result.extents ≡ extents_in s.now k) }
+        ensures at { result.next.at ≡ self.at + 128 }
+        ensures value { (k : ℕ) → AtWord s.now self.at k → result.value ≡ extents_in s.now k }
     {
         let near = self.point(s);
         let far = near.next.point(s);
-        let a = near.point;
-        let b = far.point;
-        let extents = CollisionBounds {
-            left: a.x,
-            top: a.y,
-            right: b.x,
-            bottom: b.y,
-        };
-        let next = far.next;
-        GotExtents { extents, next }
+        Got {
+            value: CollisionBounds {
+                left: near.value.x,
+                top: near.value.y,
+                right: far.value.x,
+                bottom: far.value.y,
+            },
+            next: far.next,
+        }
     }
 
     // The same as signed numbers.
-    fn rect(self, s: &[u8]) -> GotRect
+    fn rect(self, s: &[u8]) -> Got<PixelRect>
         requires { Near self.at 128 }
-        ensures { (result.next.at ≡ self.at + 128) × ((k : ℕ) → AtWord s.now self.at k → result.rect ≡ rect_in s.now k) }
+        ensures at { result.next.at ≡ self.at + 128 }
+        ensures value { (k : ℕ) → AtWord s.now self.at k → result.value ≡ rect_in s.now k }
     {
         let got = self.extents(s);
-        let e = got.extents;
-        let rect = PixelRect {
-            left: to_signed(e.left),
-            top: to_signed(e.top),
-            right: to_signed(e.right),
-            bottom: to_signed(e.bottom),
-        };
-        let next = got.next;
-        GotRect { rect, next }
+        Got {
+            value: PixelRect {
+                left: to_signed(got.value.left),
+                top: to_signed(got.value.top),
+                right: to_signed(got.value.right),
+                bottom: to_signed(got.value.bottom),
+            },
+            next: got.next,
+        }
     }
 
     // Tile x, y, width, height in tiles, collision left, top, right, bottom.
-    fn building(self, s: &[u8]) -> GotBuilding
+    fn building(self, s: &[u8]) -> Got<WallBuilding>
         requires { Near self.at 256 }
-        ensures { (result.next.at ≡ self.at + 256) × ((k : ℕ) → AtWord s.now self.at k → result.building ≡ building_in s.now k) }
+        ensures at { result.next.at ≡ self.at + 256 }
+        ensures value { (k : ℕ) → AtWord s.now self.at k → result.value ≡ building_in s.now k }
     {
         let at = self.point(s);
         let size = at.next.point(s);
         let around = size.next.extents(s);
-        let a = at.point;
-        let b = size.point;
-        let collision = around.extents;
-        let building = WallBuilding {
-            tile: TilePosition { x: a.x, y: a.y },
-            footprint: DepotFootprint {
-                width_tiles: b.x,
-                height_tiles: b.y,
+        Got {
+            value: WallBuilding {
+                tile: TilePosition {
+                    x: at.value.x,
+                    y: at.value.y,
+                },
+                footprint: DepotFootprint {
+                    width_tiles: size.value.x,
+                    height_tiles: size.value.y,
+                },
+                collision: around.value,
             },
-            collision,
-        };
-        let next = around.next;
-        GotBuilding { building, next }
+            next: around.next,
+        }
     }
 
     // A plan of `count` buildings, of which it has room for 32: those past 32 are skipped, and unused places are zero.
@@ -236,19 +203,12 @@ impl Bits {
         requires { Near self.at 8192 }
         ensures { (k : ℕ) → AtWord s.now self.at k → result ≡ plan_in s.now k count }
     {
-        let none = no_building();
-        let mut buildings = [none; 32];
+        let mut buildings = [WallBuilding::default(); 32];
         let mut cur = self;
-        let mut i = 0;
-        while i < 32 {
-            if i >= count {
-                return Plan { buildings, count };
-            }
+        for i in 0..count.min(32) {
             let got = cur.building(s);
-            let b = got.building;
-            buildings[i] = b;
+            buildings[i] = got.value;
             cur = got.next;
-            i += 1;
         }
         Plan { buildings, count }
     }
@@ -258,21 +218,16 @@ impl Bits {
         requires { Near self.at 8576 }
         ensures { (k : ℕ) → AtWord s.now self.at k → result ≡ query_from s.now k count }
     {
-        let w = self.rect(s);
-        let a = w.next.point(s);
-        let b = a.next.point(s);
-        let m = b.next.extents(s);
-        let plan = m.next.plan(s, count);
-        let window = w.rect;
-        let start = a.point;
-        let end = b.point;
-        let mover = m.extents;
+        let window = self.rect(s);
+        let start = window.next.point(s);
+        let end = start.next.point(s);
+        let mover = end.next.extents(s);
         WallQuery {
-            window,
-            start,
-            end,
-            mover,
-            plan,
+            window: window.value,
+            start: start.value,
+            end: end.value,
+            mover: mover.value,
+            plan: mover.next.plan(s, count),
         }
     }
 }

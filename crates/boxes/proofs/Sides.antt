@@ -3,11 +3,11 @@ use mathlib.Core.Path.{◌≡◌, refl, sym, ◌∙◌}
 use mathlib.Core.Bool.{Bool, true, false, not, cond, ◌&&◌, ◌||◌}
 use lib.IntN.{ℤ}
 use Rattle.model.specs.declared.WallBuilding.{WallBuilding}
-use Rattle.model.specs.declared.Geometry.TheVariants as geometry
+use Rattle.std.specs.Prelude.{Option, Some, None}
+use Rattle.std.proofs.lemmas.Option.{cond_some}
 use Rattle.model.specs.Boxes.{in_i32, footprint_box, collision_box}
 use Rattle.model.specs.Refusal.{outside, geometry_of}
-use Rattle.axes.specs.declared.Axis.{Axis}
-use Rattle.axes.specs.declared.Axis.TheVariants.{Sides, Overflow}
+use Rattle.axes.specs.declared.Sides.{Sides}
 use Rattle.axes.specs.Axes.{held, sides_if, axis_of}
 
 regroup : (a b c d : Bool) → a && b && c && d ≡ (a && c) && (b && d)
@@ -29,28 +29,24 @@ or_true false = refl
 
 -- what an axis says of its test
 module _ (left right low high : ℤ) where
-  unheld : sides_if left right low high ≡ Overflow → held left right low high ≡ false
+  unheld : sides_if left right low high ≡ None → held left right low high ≡ false
   unfolding sides_if
   unheld e = by (held left right low high) e
     where
-      by : (t : Bool) → cond t (Sides left right low high) Overflow ≡ Overflow → t ≡ false
+      by : (t : Bool) → cond {A = Option Sides} t (Some (record { left = left; right = right; low = low; high = high })) None ≡ None → t ≡ false
       by true h = cc
       by false h = refl
 
-  held_sides : {l r a z : ℤ} → sides_if left right low high ≡ Sides l r a z → (held left right low high ≡ true) × (Sides left right low high ≡ Sides l r a z)
+  held_sides : {s : Sides} → sides_if left right low high ≡ Some s → (held left right low high ≡ true) × (record { left = left; right = right; low = low; high = high } ≡ s)
   unfolding sides_if
-  held_sides {l} {r} {a} {z} e = by (held left right low high) e
-    where
-      by : (t : Bool) → cond t (Sides left right low high) Overflow ≡ Sides l r a z → (t ≡ true) × (Sides left right low high ≡ Sides l r a z)
-      by true h = (refl, h)
-      by false h = (cc, cc)
+  held_sides {s} e = cond_some (held left right low high) _ s e
 
 -- i32 holds both boxes of a building where it holds the sides on each axis.
 module _ (b : WallBuilding) where
-  abbrev pub axis_x : Axis
+  abbrev pub axis_x : Option Sides
   axis_x = axis_of b.tile.x b.footprint.width_tiles b.collision.left b.collision.right
 
-  abbrev pub axis_y : Axis
+  abbrev pub axis_y : Option Sides
   axis_y = axis_of b.tile.y b.footprint.height_tiles b.collision.top b.collision.bottom
 
   by_axes : outside (footprint_box b) || outside (collision_box b)
@@ -64,15 +60,15 @@ module _ (b : WallBuilding) where
         regroup (in_i32 k.left) (in_i32 k.top) (in_i32 k.right) (in_i32 k.bottom),
       ) (exchange (in_i32 f.left && in_i32 f.right) (in_i32 f.top && in_i32 f.bottom) (in_i32 k.left && in_i32 k.right) (in_i32 k.top && in_i32 k.bottom))
 
-  pub overflow_x : {x : Axis} → x ≡ axis_x → x ≡ Overflow → geometry_of b ≡ geometry.Overflow
+  pub overflow_x : {x : Option Sides} → x ≡ axis_x → x ≡ None → geometry_of b ≡ None
   overflow_x e o = rw (by_axes, unheld (footprint_box b).left (footprint_box b).right (collision_box b).left (collision_box b).right (sym e ∙ o))
 
-  pub overflow_y : {y : Axis} → y ≡ axis_y → y ≡ Overflow → geometry_of b ≡ geometry.Overflow
+  pub overflow_y : {y : Option Sides} → y ≡ axis_y → y ≡ None → geometry_of b ≡ None
   overflow_y e o = rw (by_axes, unheld (footprint_box b).top (footprint_box b).bottom (collision_box b).top (collision_box b).bottom (sym e ∙ o), or_true)
 
-  pub both_fit : {x y : Axis} {l r a z t d u w : ℤ} → x ≡ axis_x → x ≡ Sides l r a z → y ≡ axis_y → y ≡ Sides t d u w
-      → geometry_of b ≡ geometry.Fits (record { footprint = record { left = l; top = t; right = r; bottom = d }; collision = record { left = a; top = u; right = z; bottom = w } })
+  pub both_fit : {x y : Option Sides} {s t : Sides} → x ≡ axis_x → x ≡ Some s → y ≡ axis_y → y ≡ Some t
+      → geometry_of b ≡ Some (record { footprint = record { left = s.left; top = t.left; right = s.right; bottom = t.right }; collision = record { left = s.low; top = t.low; right = s.high; bottom = t.high } })
   both_fit e s f p =
       let i = held_sides (footprint_box b).left (footprint_box b).right (collision_box b).left (collision_box b).right (sym e ∙ s) in
       let j = held_sides (footprint_box b).top (footprint_box b).bottom (collision_box b).top (collision_box b).bottom (sym f ∙ p) in
-      rw (by_axes, i.0, j.0) (cc (i.1, j.1))
+      rw (by_axes, i.0, j.0, ← i.1, ← j.1)

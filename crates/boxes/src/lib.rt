@@ -7,8 +7,7 @@ ghost use Rattle.model.specs.Check.{no_rect};
 ghost use Rattle.model.specs.Ground.{rects};
 ghost use Rattle.model.specs.Refusal.{geometry_of};
 
-use axes::Axis;
-use model::{BuildingGeometry, Geometry, PixelRect, WallBuilding};
+use model::{BuildingGeometry, PixelRect, WallBuilding};
 
 // Whether the two share a point. Touching sides share none.
 pub fn intersects(a: PixelRect, b: PixelRect) -> bool
@@ -31,12 +30,7 @@ pub fn rect_in_map(rect: PixelRect, width: u32, height: u32) -> bool
 fn extent(low: i32, high: i32) -> usize
     ensures { result ≡ nat_abs (high -ℤ low) }
 {
-    let from = numbers::biased(low);
-    let to = numbers::biased(high);
-    if to < from {
-        return (from - to) as usize;
-    }
-    (to - from) as usize
+    high.abs_diff(low) as usize
 }
 
 // How wide a rectangle is that is not inverted.
@@ -67,8 +61,8 @@ pub fn obstacle_at(words: &[i32], i: usize) -> PixelRect
     }
 }
 
-// Both boxes of a building, whatever its numbers are.
-pub fn building_geometry(b: WallBuilding) -> Geometry
+// Both boxes of a building, whatever its numbers are; none where a side of one of them is outside i32.
+pub fn building_geometry(b: WallBuilding) -> Option<BuildingGeometry>
     ensures { result ≡ geometry_of b }
 {
     let x = axes::building_axis(
@@ -76,43 +70,25 @@ pub fn building_geometry(b: WallBuilding) -> Geometry
         b.footprint.width_tiles,
         b.collision.left,
         b.collision.right,
-    );
-    let Axis::Sides {
-        left,
-        right,
-        low,
-        high,
-    } = x
-    else {
-        return Geometry::Overflow;
-    };
+    )?;
     let y = axes::building_axis(
         b.tile.y,
         b.footprint.height_tiles,
         b.collision.top,
         b.collision.bottom,
-    );
-    let Axis::Sides {
-        left: top,
-        right: bottom,
-        low: upper,
-        high: lower,
-    } = y
-    else {
-        return Geometry::Overflow;
-    };
-    Geometry::Fits(BuildingGeometry {
+    )?;
+    Some(BuildingGeometry {
         footprint: PixelRect {
-            left,
-            top,
-            right,
-            bottom,
+            left: x.left,
+            top: y.left,
+            right: x.right,
+            bottom: y.right,
         },
         collision: PixelRect {
-            left: low,
-            top: upper,
-            right: high,
-            bottom: lower,
+            left: x.low,
+            top: y.low,
+            right: x.high,
+            bottom: y.high,
         },
     })
 }

@@ -1,3 +1,2 @@
--- `Listed`: rectangles of the words, buildings of a plan. `Blocking`: what the counts say of the definitions.
-pub mod Listed
+-- `Blocking`: what the counts say of the definitions.
 pub mod Blocking

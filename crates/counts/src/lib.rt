@@ -2,28 +2,34 @@
 // in one grid, and the plan's collision boxes in another.
 #![tactic(auto)]
 
-ghost use Rattle.std.specs.Prelude.{map, ◌*◌, ◌≤◌, length};
+ghost use Rattle.std.specs.Prelude.{◌≡◌, map, ◌+◌, ◌*◌, ◌^◌, ◌<◌, ◌≤◌, length, ℕ, Bool, List};
+ghost use Rattle.std.specs.Fn.{FnOnceReturnsAtMut};
+ghost use Rattle.numbers.specs.Integers.{up, dn};
 ghost use Rattle.model.specs.Boxes.{collision_box};
-ghost use Rattle.model.specs.Ground.{ground, rects, built};
+ghost use Rattle.model.specs.Ground.{seen, rects, built};
 ghost use Rattle.model.specs.Refusal.{caps};
 ghost use Rattle.stamps.specs.Stamps.{Framed, Adds, Counted, stop, stops};
 ghost use Rattle.counts.specs.Counts.{Lifted, Surveyed, blocked_before, ground_cap};
 
-use model::{CollisionBounds, PixelRect, Plan, WallBuilding};
+use model::{CollisionBounds, Ground, PixelRect, Plan, WallBuilding};
 use stamps::{CARRY, Frame, Raised};
 
-// `biased` carries up by 2^31; this much more makes CARRY.
-const HALF: u64 = 2147483648;
+// A coordinate carried up.
+fn carried(x: i32) -> u64
+    ensures { result + dn x ≡ 2 ^ 32 + up x }
+{
+    (x as i64 + CARRY as i64) as u64
+}
 
 // A rectangle carried up.
 fn raised(rect: PixelRect) -> Raised
     ensures { Lifted rect result }
 {
     Raised {
-        left: numbers::biased(rect.left) + HALF,
-        top: numbers::biased(rect.top) + HALF,
-        right: numbers::biased(rect.right) + HALF,
-        bottom: numbers::biased(rect.bottom) + HALF,
+        left: carried(rect.left),
+        top: carried(rect.top),
+        right: carried(rect.right),
+        bottom: carried(rect.bottom),
     }
 }
 
@@ -33,12 +39,9 @@ pub fn stamp_obstacles(grid: &mut [u32], frame: Frame, mover: CollisionBounds, w
     requires words_len_bound { length words.now ≤ 4 * caps.obstacles }
     ensures { Adds frame.width frame.height caps.obstacles (stops frame mover (rects words.now)) grid.old grid.new }
 {
-    let count = words.len() / 4;
-    let mut i = 0;
-    while i < count {
+    for i in 0..words.len() / 4 {
         let obstacle = boxes::obstacle_at(words, i);
         stamps::stamp_expanded(grid, frame, mover, raised(obstacle));
-        i += 1;
     }
 }
 
@@ -79,53 +82,61 @@ pub fn stamp_plan(grid: &mut [u32], frame: Frame, mover: CollisionBounds, plan: 
     requires count_le_buildings { plan.count ≤ caps.buildings }
     ensures { Adds frame.width frame.height caps.buildings (stops frame mover (map collision_box (built plan))) grid.old grid.new }
 {
-    let count = plan.count;
-    let mut i = 0;
-    while i < count {
-        let building = plan.buildings[i];
-        stamp_building(grid, frame, mover, building);
-        i += 1;
+    for building in &plan.buildings[..plan.count] {
+        stamp_building(grid, frame, mover, *building);
     }
 }
 
 // Stamps what stops a mover before the plan.
-fn stamp_ground(
-    grid: &mut [u32],
-    frame: Frame,
-    mover: CollisionBounds,
-    cells: &[u8],
-    words: &[i32],
-    width: usize,
-    height: usize,
-)
+fn stamp_ground(grid: &mut [u32], frame: Frame, mover: CollisionBounds, ground: Ground<'_>)
     requires framed { Framed frame grid.old }
-    requires surveyed { Surveyed (ground width height cells.now words.now) }
-    ensures { Adds frame.width frame.height ground_cap (blocked_before (ground width height cells.now words.now) frame mover) grid.old grid.new }
+    requires surveyed { Surveyed (seen ground) }
+    ensures { Adds frame.width frame.height ground_cap (blocked_before (seen ground.entry) frame mover) grid.old grid.new }
 {
+    let width = ground.width as usize;
+    let height = ground.height as usize;
     stamps::stamp_map_edge(grid, frame, mover, width, height);
-    terrain::stamp_terrain_blockers(grid, frame, mover, cells, width, height);
-    stamp_obstacles(grid, frame, mover, words);
+    terrain::stamp_terrain_blockers(grid, frame, mover, ground.cells, width, height);
+    stamp_obstacles(grid, frame, mover, ground.words);
 }
 
-// Counts what stops a mover before the plan.
-pub fn count_ground(
-    grid: &mut [u32],
-    frame: Frame,
-    mover: CollisionBounds,
-    cells: &[u8],
-    words: &[i32],
-    width: usize,
-    height: usize,
-)
+// Clears the grid, stamps it and sums the stamps up.
+fn count<F: FnOnce(&mut [u32])>(grid: &mut [u32], frame: Frame, stamp: F)
     requires framed { Framed frame grid.old }
-    requires surveyed { Surveyed (ground width height cells.now words.now) }
-    ensures { Counted frame.width frame.height (blocked_before (ground width height cells.now words.now) frame mover) grid.old grid.new }
+    requires stampable { (g : _) → Framed frame g.now → F.pre stamp g }
+    ensures { (k : ℕ) (Q : ℕ → ℕ → Bool) → k < 2 ^ 32
+        → ((was now : List ℕ) → FnOnceReturnsAtMut F.FnOnce stamp was tt now → Adds frame.width frame.height k Q was now)
+        → Counted frame.width frame.height Q grid.old grid.new }
 {
     let stride = frame.width + 1;
     let rows = frame.height + 1;
-    grid::clear(grid, rows * stride);
-    stamp_ground(grid, frame, mover, cells, words, width, height);
+    grid[..rows * stride].fill(0);
+    stamp(grid);
     grid::finish(grid, stride, rows);
+}
+
+// Counts what stops a mover before the plan.
+pub fn count_ground(grid: &mut [u32], frame: Frame, mover: CollisionBounds, ground: Ground<'_>)
+    requires framed { Framed frame grid.old }
+    requires surveyed { Surveyed (seen ground) }
+    ensures { Counted frame.width frame.height (blocked_before (seen ground.entry) frame mover) grid.old grid.new }
+{
+    // The closure takes the parts, since a proof does not see into a struct of references that a closure holds.
+    let Ground {
+        width,
+        height,
+        cells,
+        words,
+    } = ground;
+    count(grid, frame, |cleared| {
+        let ground = Ground {
+            width,
+            height,
+            cells,
+            words,
+        };
+        stamp_ground(cleared, frame, mover, ground)
+    });
 }
 
 // Counts the plan's collision boxes.
@@ -134,9 +145,9 @@ pub fn count_plan(grid: &mut [u32], frame: Frame, mover: CollisionBounds, plan: 
     requires count_le_buildings { plan.count ≤ caps.buildings }
     ensures { Counted frame.width frame.height (stops frame mover (map collision_box (built plan))) grid.old grid.new }
 {
-    let stride = frame.width + 1;
-    let rows = frame.height + 1;
-    grid::clear(grid, rows * stride);
-    stamp_plan(grid, frame, mover, plan);
-    grid::finish(grid, stride, rows);
+    count(
+        grid,
+        frame,
+        |cleared| stamp_plan(cleared, frame, mover, plan),
+    );
 }

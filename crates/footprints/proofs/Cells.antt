@@ -1,12 +1,11 @@
 -- The cells under a footprint, looked at row by row: the first of them that is unfit is the first of the bad cells. Assumes nothing.
-use mathlib.Core.Path.{◌≡◌, refl, sym, ap, subst}
+use mathlib.Core.Path.{◌≡◌, sym, ap, subst}
 use mathlib.Core.Bool.{Bool, true, false, not, ◌&&◌}
-use mathlib.Core.List.{List, [], ◌∷◌}
-use Prim.Native.Nat.{ℕ, suc, ◌+◌, ◌*◌, ◌/◌, ◌%◌, ◌≤◌, ◌<◌}
+use mathlib.Core.List.{List}
+use Prim.Native.Nat.{ℕ, ◌+◌, ◌*◌, ◌/◌, ◌%◌, ◌≤◌, ◌<◌}
 use native.Mathlib.Decide.{dec_lt}
 use native.Mathlib.Nat.{mul_comm, mul-le-mul_right, div-add-mod', div-eq_of_lt-le, div-lt_iff_lt-mul}
 use native.Mathlib.Omega.{arith}
-use borrow.Author.Tests.{lt-ltb}
 use lib.Dec.{T}
 use lib.IntN.{pos}
 use lib.ListN.{length, get_or}
@@ -20,8 +19,8 @@ use Rattle.model.specs.Ground.{walkable, buildable}
 use Rattle.model.specs.Placement.{bad_cells}
 use Rattle.model.proofs.Meeting.{meeting, they_meet}
 use Rattle.model.proofs.Places.{none_kept, first_kept}
-use Rattle.footprints.specs.declared.Found.TheVariants.{At, Nothing}
-use Rattle.footprints.specs.Cells.{Fit, UnfitAt, unfit, head, bad_under, left_cell, right_cell, top_cell, bottom_cell, Covers, non_empty}
+use Rattle.std.specs.Prelude.{Some, None}
+use Rattle.footprints.specs.Cells.{UnfitAt, unfit, head, bad_under, left_cell, right_cell, top_cell, bottom_cell, Covers}
 
 -- the cell's column and row lie in these ranges
 pub record Under (w left right top bottom j : ℕ) : Type 0 where
@@ -69,10 +68,6 @@ module _ (w : ℕ) (cells : List ℕ) (b : WallBuilding) where
       let under = meets (footprint_box b) (cell_box w j) in
       is_false (under && unfit cells j) (λ t. subst T (fit (meets_under w b j (left_of under (unfit cells j) t))) (right_of under (unfit cells j) t))
 
-  -- the rows above the building
-  pub rows_above : ClearUnder (top_cell b)
-  rows_above j h u = absurd (omega arith)
-
   module _ (y : ℕ) (clear : ClearUnder y) where
     -- a cell of the rows up to y, fit if it is one of row y
     up_to : (j : ℕ) → j / w < y + 1 → Beneath w b j → (y * w + left_cell b ≤ j → j < y * w + right_cell b → unfit cells j ≡ false) → unfit cells j ≡ false
@@ -85,24 +80,20 @@ module _ (w : ℕ) (cells : List ℕ) (b : WallBuilding) where
             let e : y * w + j % w ≡ j = rw q at (div-add-mod' j w) in
             fit (omega arith) (omega arith)
 
-    -- a row of the building with no unfit cell
-    pub row_passed : Fit cells (y * w + left_cell b) (y * w + right_cell b) → ClearUnder (y + 1)
-    row_passed fit j h u = up_to j h u (fit j)
-
     -- a row with one: the first there is the first of the bad cells
-    pub row_stopped : (i : ℕ) → Covers w cells b → top_cell b ≤ y → y < bottom_cell b → UnfitAt cells (y * w + left_cell b) (y * w + right_cell b) i → head (bad_under w cells b) ≡ At i
+    pub row_stopped : (i : ℕ) → Covers w cells b → top_cell b ≤ y → y < bottom_cell b → UnfitAt cells (y * w + left_cell b) (y * w + right_cell b) i → Some i ≡ head (bad_under w cells b)
     unfolding bad_cells
     row_stopped i v top bottom u =
         let beneath = in_row w b i y v.across top bottom u.low u.high in
         let within : i < length cells = omega (arith, rows_fit w y (bottom_cell b) (length cells) bottom v.down) in
         let some : 0 < w = omega arith in
         let none_before : (j : ℕ) → j < i → bad j (get_or cells j 0) ≡ false = λ j h. not_bad j (λ n. up_to j ((div-lt_iff_lt-mul some).1 (omega arith)) n (λ l r. u.before j l h)) in
-        ap head (first_kept bad 0 cells i within none_before (rw (under_meets w b i beneath) u.here)).1
+        sym (ap head (first_kept bad 0 cells i within none_before (rw (under_meets w b i beneath) u.here)).1)
 
     -- past the building's rows: there is no bad cell
-    pub rows_done : bottom_cell b ≤ y → bad_under w cells b ≡ []
+    pub rows_done : bottom_cell b ≤ y → None ≡ head (bad_under w cells b)
     unfolding bad_cells
-    rows_done h = none_kept bad 0 cells (λ j k. not_bad j (λ n. clear j (omega arith) n))
+    rows_done h = sym (ap head (none_kept bad 0 cells (λ j k. not_bad j (λ n. clear j (omega arith) n))))
 
 -- a footprint in the map covers cells of the map
 pub in_map_covers : (w h : ℕ) (cells : List ℕ) (b : WallBuilding) → in_map w h (footprint_box b) ≡ true → length cells ≡ w * h → Covers w cells b
@@ -114,12 +105,3 @@ in_map_covers w h cells b e l =
     let bottom = ≤-nat {a = f.bottom} {b = pos (8 * h)} (record { le = sides.3 }) in
     let rows : bottom_cell b ≤ h = omega arith in
     record { across = omega arith; down = omega (arith, mul-le-mul_right w rows, mul_comm w h) }
-
--- the first of a list says whether there is one
-pub head_nothing : (l : List ℕ) → head l ≡ Nothing → non_empty l ≡ false
-head_nothing [] e = refl
-head_nothing (i ∷ l) e = let z : ◌≡◌ {A = ℕ} 0 1 = cc in absurd (omega arith)
-
-pub head_at : (l : List ℕ) (i : ℕ) → head l ≡ At i → non_empty l ≡ true
-head_at [] i e = let z : ◌≡◌ {A = ℕ} 0 1 = cc in absurd (omega arith)
-head_at (j ∷ l) i e = lt-ltb 0 (suc (length l)) (omega arith)

@@ -1,11 +1,9 @@
 -- The first cell on which no building can stand. Assumes nothing.
-use Rattle.std.specs.Prelude.{◌≡◌, Bool, true, false, not, ◌&&◌, List, [], ◌∷◌, ℕ, ◌+◌, ◌*◌, ◌≤◌, ◌<◌, ltb, length, get_or}
+use Rattle.std.specs.Prelude.{◌≡◌, Bool, true, false, not, ◌&&◌, List, [], ◌∷◌, ℕ, ◌+◌, ◌*◌, ◌≤◌, ◌<◌, ltb, length, get_or, Option, Some, None}
 use Rattle.model.specs.declared.WallBuilding.{WallBuilding}
 use Rattle.model.specs.Boxes.{footprint_box}
 use Rattle.model.specs.Ground.{walkable, buildable}
 use Rattle.model.specs.Placement.{bad_cells}
-use Rattle.footprints.specs.declared.Found.{Found}
-use Rattle.footprints.specs.declared.Found.TheVariants.{At, Nothing}
 
 -- the cell is unwalkable or unbuildable
 abbrev pub unfit : List ℕ → ℕ → Bool
@@ -22,14 +20,14 @@ pub record UnfitAt (cells : List ℕ) (from to i : ℕ) : Type 0 where
   pub here : unfit cells i ≡ true
   pub before : Fit cells from i
 
-abbrev pub FirstUnfit : List ℕ → ℕ → ℕ → Found → Type 0
-FirstUnfit cells from to (At i) = UnfitAt cells from to i
-FirstUnfit cells from to Nothing = Fit cells from to
+abbrev pub FirstUnfit : List ℕ → ℕ → ℕ → Option ℕ → Type 0
+FirstUnfit cells from to (Some i) = UnfitAt cells from to i
+FirstUnfit cells from to None = Fit cells from to
 
 -- the first of a list
-abbrev pub head : List ℕ → Found
-head [] = Nothing
-head (i ∷ is) = At i
+abbrev pub head : List ℕ → Option ℕ
+head [] = None
+head (i ∷ is) = Some i
 
 -- there is one
 abbrev pub non_empty : List ℕ → Bool

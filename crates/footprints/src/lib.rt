@@ -10,13 +10,6 @@ use model::WallBuilding;
 // A tile is 32 pixels, a cell 8.
 const CELLS_PER_TILE: usize = 4;
 
-// The number of a cell, or that there is none.
-#[derive(Clone, Copy)]
-pub enum Found {
-    At(usize),
-    Nothing,
-}
-
 // Whether a building can stand on the cell: it is walkable and buildable.
 fn fit(cell: u8) -> bool
     ensures { result ≡ walkable cell && buildable cell }
@@ -25,22 +18,15 @@ fn fit(cell: u8) -> bool
 }
 
 // The first of the cells from one place up to another on which no building can stand.
-fn first_unfit(cells: &[u8], from: usize, to: usize) -> Found
+fn first_unfit(cells: &[u8], from: usize, to: usize) -> Option<usize>
     requires { to ≤ length cells.now }
     ensures { FirstUnfit cells.now from to result }
 {
-    let mut i = from;
-    while i < to {
-        if !fit(cells[i]) {
-            return Found::At(i);
-        }
-        i += 1;
-    }
-    Found::Nothing
+    (from..to).find(|&i| !fit(cells[i]))
 }
 
 // The first bad cell under a building whose cells are in the map, by rows and then from the left.
-pub fn first_bad_cell(width: u32, cells: &[u8], b: WallBuilding) -> Found
+pub fn first_bad_cell(width: u32, cells: &[u8], b: WallBuilding) -> Option<usize>
     requires { Covers width cells.now b }
     ensures { result ≡ head (bad_under width cells.now b) }
 {
@@ -49,16 +35,13 @@ pub fn first_bad_cell(width: u32, cells: &[u8], b: WallBuilding) -> Found
     let right = left + CELLS_PER_TILE * b.footprint.width_tiles as usize;
     let top = CELLS_PER_TILE * b.tile.y as usize;
     let bottom = top + CELLS_PER_TILE * b.footprint.height_tiles as usize;
-    let mut y = top;
-    while y < bottom {
+    for y in top..bottom {
         let row = y * w;
-        let found = first_unfit(cells, row + left, row + right);
-        let Found::Nothing = found else {
-            return found;
-        };
-        y += 1;
+        if let Some(i) = first_unfit(cells, row + left, row + right) {
+            return Some(i);
+        }
     }
-    Found::Nothing
+    None
 }
 
 // Whether a building can stand on every cell under it, all in the map.
@@ -66,9 +49,5 @@ pub fn footprint_buildable(width: u32, cells: &[u8], b: WallBuilding) -> bool
     requires { Covers width cells.now b }
     ensures { result ≡ not (non_empty (bad_under width cells.now b)) }
 {
-    let found = first_bad_cell(width, cells, b);
-    let Found::Nothing = found else {
-        return false;
-    };
-    true
+    first_bad_cell(width, cells, b).is_none()
 }

@@ -4,30 +4,17 @@
 #![tactic(auto)]
 
 ghost use Rattle.std.specs.Prelude.{◌≡◌, ◌+◌, ◌*◌, ◌<◌, ◌≤◌, length};
-ghost use Rattle.model.specs.Areas.{cleared};
 ghost use Rattle.grid.specs.Grid.{Boxed, Finished, Summed, bump};
 
 // -1 modulo 2^32.
-const LESS: u32 = 4294967295;
-
-// Writes 0 to the first n entries.
-pub fn clear(grid: &mut [u32], n: usize)
-    requires { n ≤ length grid.old }
-    ensures { grid.new ≡ cleared n grid.old }
-{
-    let mut i = 0;
-    while i < n {
-        grid[i] = 0;
-        i += 1;
-    }
-}
+const LESS: u32 = u32::MAX;
 
 // Adds v to entry i, modulo 2^32.
 fn add_at(grid: &mut [u32], i: usize, v: u32)
     requires { i < length grid.old }
     ensures { grid.new ≡ bump grid.old i v }
 {
-    grid[i] = std::num::wrapping_add_u32(grid[i], v);
+    grid[i] = grid[i].wrapping_add(v);
 }
 
 // Stamps the rectangle from column left up to right and row top up to bottom, both half open. One that is empty changes nothing.
@@ -63,11 +50,8 @@ fn sums(grid: &mut [u32], step: usize, n: usize)
     requires n_in_bounds { n ≤ length grid.old }
     ensures { Summed step n grid.old grid.new }
 {
-    let mut k = step;
-    while k < n {
-        let sum = std::num::wrapping_add_u32(grid[k], grid[k - step]);
-        grid[k] = sum;
-        k += 1;
+    for k in step..n {
+        grid[k] = grid[k].wrapping_add(grid[k - step]);
     }
 }
 

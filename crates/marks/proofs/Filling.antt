@@ -1,56 +1,64 @@
--- The passes over the marks: one mark more, and one row more. Assumes nothing.
-use mathlib.Core.Path.{◌≡◌, refl, ap, subst, ◌∙◌}
-use mathlib.Core.List.{List}
-use mathlib.Core.Logic.{◌⊎◌, inl, inr}
-use Prim.Native.Nat.{ℕ, ◌+◌, ◌*◌, ◌≤◌, ◌<◌}
-use native.Mathlib.Omega.{arith}
-use native.Mathlib.Decide.{dec_lt, ℕ_discrete}
-use lib.ListN.{length, get_or, set}
-use lib.Seq.{get_or-set_same, get_or-set_other}
+-- The passes over the marks: one row more, and one part behind the other. Assumes nothing.
+use Rattle.std.proofs.Common.{◌≡◌, ◌∙◌, sym, ap, ℕ, ◌+◌, ◌*◌, ◌≤◌, ◌<◌, List, ◌++◌, length, get_or, take, drop, arith}
+use Rattle.std.proofs.lemmas.List.{drop-drop, drop_at}
+use Rattle.std.proofs.lemmas.Grind.{common_steps}
+use borrow.Rule.Slice.PartMut.{put_mid}
+use native.Mathlib.Decide.{dec_lt}
+use Rattle.numbers.proofs.Lists.{same_rest}
 use Rattle.numbers.proofs.Places.{row_below}
 use Rattle.marks.specs.Marks.{mark_of}
 use Rattle.marks.specs.Passes.{covered, Row, Part}
 
-module _ (ground plan : List ℕ) where
-  pub row_none : (to from : ℕ) (marks : List ℕ) → Row to from 0 ground plan marks marks
-  row_none to from marks = record { mark = λ i h. omega arith; rest = λ k h. refl }
+-- what stands within a part that was written, and on either side of it
+module _ (a k : ℕ) (xs ys : List ℕ) (long : length ys ≡ k) (room : a + k ≤ length xs) where
+  at_mid : (i : ℕ) → i < k → get_or (put_mid a k xs ys) (a + i) 0 ≡ get_or ys i 0
+  at_mid i h = grind (arith, common_steps)
 
-  pub row_more : (to from i v : ℕ) {was now : List ℕ} → to + i < length now → v ≡ mark_of (covered ground plan (from + i)) → Row to from i ground plan was now → Row to from (i + 1) ground plan was (set now (to + i) v)
-  row_more to from i v {was} {now} room e r = record { mark = mark; rest = rest }
+  below_mid : (i : ℕ) → i < a → get_or (put_mid a k xs ys) i 0 ≡ get_or xs i 0
+  below_mid i h = grind (arith, common_steps)
+
+  above_mid : (i : ℕ) → a + k ≤ i → get_or (put_mid a k xs ys) i 0 ≡ get_or xs i 0
+  above_mid i h = grind (arith, common_steps)
+
+-- the counts of a row, cut out of the grid's
+count_of : (counts : List ℕ) (from k w i : ℕ) → k ≡ w → from + w ≤ length counts → i < w → get_or (take k (drop from counts)) i 0 ≡ get_or counts (from + i) 0
+count_of counts from k w i e room h = grind (arith, common_steps)
+
+module _ (ground plan : List ℕ) (w y : ℕ) {was mid row : List ℕ} (to from k n : ℕ) (e : to ≡ y * w) (u : from ≡ y * (w + 1)) (v : k ≡ w) (t : n ≡ w) (room : to + w ≤ length mid)
+    (ground-room : from + w ≤ length ground) (plan-room : from + w ≤ length plan) (long : length row ≡ length (take k (drop to mid)))
+    (p : Part w y ground plan was mid) (r : Row (take n (drop from ground)) (take n (drop from plan)) (take k (drop to mid)) row) where
+  long_row : length row ≡ k
+  long_row = grind (arith, common_steps)
+
+  pub part_more : Part w (y + 1) ground plan was (put_mid to k mid row)
+  part_more = record { mark = λ x z hx hz. at x z hx (dec_lt z y) (omega arith); rest = λ i h. above_mid to k mid row long_row (omega arith) i (omega arith) ∙ p.rest i (omega arith) }
     where
-      mark : (j : ℕ) → j < i + 1 → get_or (set now (to + i) v) (to + j) 0 ≡ mark_of (covered ground plan (from + j))
-      mark j h = pick (ℕ_discrete j i)
-        where
-          pick : Dec (j ≡ i) → get_or (set now (to + i) v) (to + j) 0 ≡ mark_of (covered ground plan (from + j))
-          pick (yes q) = rw (q, get_or-set_same now (to + i) v 0 room) e
-          pick (no q) = get_or-set_other now (to + i) (to + j) v 0 (omega arith) ∙ r.mark j (omega arith)
+      at : (x z : ℕ) → x < w → Dec (z < y) → z ≤ y → get_or (put_mid to k mid row) (z * w + x) 0 ≡ mark_of (covered ground plan (z * (w + 1) + x))
+      at x z hx (yes h) l = below_mid to k mid row long_row (omega arith) (z * w + x) (omega (arith, row_below w x z y hx h)) ∙ p.mark x z hx h
+      at x z hx (no h) l =
+          let same : y ≡ z = omega arith in
+          grind (
+            arith,
+            at_mid to k mid row long_row (omega arith) x (omega arith),
+            r.mark x (grind (arith, common_steps)),
+            count_of ground from n w x t ground-room hx,
+            count_of plan from n w x t plan-room hx,
+          )
 
-      rest : (k : ℕ) → (k < to) ⊎ (to + (i + 1) ≤ k) → get_or (set now (to + i) v) k 0 ≡ get_or was k 0
-      rest k (inl h) = get_or-set_other now (to + i) k v 0 (omega arith) ∙ r.rest k (inl h)
-      rest k (inr h) = get_or-set_other now (to + i) k v 0 (omega arith) ∙ r.rest k (inr (omega arith))
+-- the first part of the marks, and the one behind it
+module _ (w h : ℕ) {base plan before after first second : List ℕ} (cut : length before ≡ h * w) (same : length first ≡ length before) (long : length second ≡ length after)
+    (p : Part w h base base before first) (q : Part w h base plan after second) where
+  pub first_part : (x y : ℕ) → x < w → y < h → get_or (first ++ second) (y * w + x) 0 ≡ mark_of (covered base base (y * (w + 1) + x))
+  first_part x y hx hy = grind (arith, common_steps, row_below w x y h hx hy, p.mark x y hx hy)
 
-  pub part_none : (at w : ℕ) (marks : List ℕ) → Part at w 0 ground plan marks marks
-  part_none at w marks = record { mark = λ x y hx hy. omega arith; rest = λ k h. refl }
+  pub second_part : (x y : ℕ) → x < w → y < h → get_or (first ++ second) (h * w + (y * w + x)) 0 ≡ mark_of (covered base plan (y * (w + 1) + x))
+  second_part x y hx hy = grind (arith, common_steps, row_below w x y h hx hy, q.mark x y hx hy)
 
-  pub part_more : (at w y : ℕ) {was mid now : List ℕ} → Part at w y ground plan was mid → Row (at + y * w) (y * (w + 1)) w ground plan mid now → Part at w (y + 1) ground plan was now
-  part_more at w y {was} {mid} {now} p r = record { mark = mark; rest = rest }
-    where
-      mark : (x z : ℕ) → x < w → z < y + 1 → get_or now (at + (z * w + x)) 0 ≡ mark_of (covered ground plan (z * (w + 1) + x))
-      mark x z hx hz = pick (dec_lt z y)
-        where
-          pick : Dec (z < y) → get_or now (at + (z * w + x)) 0 ≡ mark_of (covered ground plan (z * (w + 1) + x))
-          pick (yes h) = r.rest (at + (z * w + x)) (inl (omega (arith, row_below w x z y hx h))) ∙ p.mark x z hx h
-          pick (no h) =
-              let e : y ≡ z = omega arith in
-              subst (λ (t : ℕ). get_or now (at + (t * w + x)) 0 ≡ mark_of (covered ground plan (t * (w + 1) + x))) e
-              (ap (λ (i : ℕ). get_or now i 0) (omega arith) ∙ r.mark x hx)
-
-      rest : (k : ℕ) → (k < at) ⊎ (at + (y + 1) * w ≤ k) → get_or now k 0 ≡ get_or was k 0
-      rest k (inl h) = r.rest k (inl (omega arith)) ∙ p.rest k (inl h)
-      rest k (inr h) = r.rest k (inr (omega arith)) ∙ p.rest k (inr (omega arith))
-
--- the first part stays when the next one is filled
-pub first_stays : (w h : ℕ) {base plan mid now : List ℕ} {was : List ℕ} → Part 0 w h base base was mid → Part (h * w) w h base plan mid now
-    → (x y : ℕ) → x < w → y < h → get_or now (y * w + x) 0 ≡ mark_of (covered base base (y * (w + 1) + x))
-first_stays w h {base} {plan} {mid} {now} p q x y hx hy =
-    q.rest (y * w + x) (inl (row_below w x y h hx hy)) ∙ ap (λ (i : ℕ). get_or mid i 0) (omega arith) ∙ p.mark x y hx hy
+  pub behind_parts : (marks : List ℕ) → after ≡ drop (h * w) marks → drop (h * w + h * w) (first ++ second) ≡ drop (h * w + h * w) marks
+  behind_parts marks e =
+      let n : ℕ = h * w in
+      sym (drop-drop n n (first ++ second))
+      ∙ ap (drop n) (drop_at first second n (omega arith))
+      ∙ same_rest 0 n second after long q.rest
+      ∙ ap (drop n) e
+      ∙ drop-drop n n marks

@@ -1,17 +1,16 @@
 -- The marks and the definitions. `shown`: counts that are above zero where a blocker stops the mover leave marks that say which centers are free.
 -- `marks_agree`: the marks have the routes of the definitions. `center_marks`, at the end: what the marks say of each center. Assumes nothing.
-use mathlib.Core.Path.{◌≡◌, refl, sym, ap, subst, ◌∙◌}
-use mathlib.Core.Bool.{Bool, true, false, not, ◌||◌}
+use mathlib.Core.Path.{◌≡◌}
+use mathlib.Core.Bool.{not}
 use mathlib.Core.List.{List, map}
 use mathlib.Core.Logic.{◌↔◌}
 use Prim.Native.Nat.{ℕ, ◌+◌, ◌-◌, ◌*◌, ◌≤◌, ◌<◌}
-use native.Mathlib.Nat.{mul_comm}
 use native.Mathlib.Omega.{arith}
-use lib.Dec.{T, ltb}
+use lib.Dec.{T}
 use lib.IntN.{pos}
-use lib.ListN.{length, get_or, take, drop}
+use lib.ListN.{get_or, take, drop}
 use lib.Seq.{get_or-take, get_or-drop}
-use Rattle.numbers.proofs.Places.{row_below}
+use Rattle.std.proofs.lemmas.Grind.{common_steps}
 use Rattle.numbers.proofs.Tests.{left_of}
 use Rattle.model.specs.declared.PixelRect.{PixelRect}
 use Rattle.model.specs.declared.CollisionBounds.{CollisionBounds}
@@ -20,26 +19,17 @@ use Rattle.model.specs.Boxes.{holds, collision_box, width_of, height_of}
 use Rattle.model.specs.Ground.{Ground, before, after, built, free, passable}
 use Rattle.model.specs.Areas.{cleared}
 use Rattle.model.specs.RouteTest.{TestAreas}
-use Rattle.model.proofs.Lists.{cleared_alike}
 use Rattle.model.proofs.Shifted.{Agree}
 use Rattle.model.specs.Accepted.{Windowed, Valid}
 use Rattle.model.specs.declared.WallQuery.{WallQuery}
-use Rattle.stamps.specs.Stamps.{Framed, Counted, stops}
+use Rattle.stamps.specs.Stamps.{Counted, stops}
 use Rattle.counts.specs.Counts.{blocked}
 use Rattle.counts.proofs.Blocking.{blocked_after}
 use Rattle.marks.specs.Marks.{mark_of, Unmarked, Shows, Shown, Centers, Ready, areas, frame_of}
-use Rattle.marks.specs.Passes.{covered, Settled}
+use Rattle.marks.specs.Passes.{Settled}
 use Rattle.marks.proofs.Windows.{left, top, holds_center, center_held}
 
 -- ---- what a mark of 0 says
-unmarked : (t : Bool) → mark_of (not t) ≡ 0 → T t
-unmarked true e = tt
-unmarked false e = absurd (omega arith)
-
-zero_mark : (t : Bool) → T t → mark_of (not t) ≡ 0
-zero_mark true h = refl
-zero_mark false h = absurd h
-
 module _ (g : Ground) (window : PixelRect) (m : CollisionBounds) (boxes : List PixelRect) (marks : List ℕ) (s : Windowed g.width g.height window) (k : Shows g window m boxes marks) where
   -- within the window a center that is free may be passed
   inside : (x y : ℕ) → x < width_of window → y < height_of window → passable g window m boxes (left window + x) (top window + y) ≡ free g m boxes (left window + x) (top window + y)
@@ -49,26 +39,20 @@ module _ (g : Ground) (window : PixelRect) (m : CollisionBounds) (boxes : List P
   -- the mark of each center of the window is 0 exactly when the center is free
   pub free_exactly : (x y : ℕ) → x < width_of window → y < height_of window → (get_or marks (y * width_of window + x) 0 ≡ 0) ↔ T (free g m boxes (left window + x) (top window + y))
   free_exactly x y hx hy =
-      let e : get_or marks (y * width_of window + x) 0 ≡ mark_of (not (free g m boxes (left window + x) (top window + y))) = k.mark x y hx hy ∙ ap (λ (t : Bool). mark_of (not t)) (inside x y hx hy) in
-      (λ z. unmarked (free g m boxes (left window + x) (top window + y)) (sym e ∙ z), λ t. e ∙ zero_mark (free g m boxes (left window + x) (top window + y)) t)
+      let mark = k.mark x y hx hy in
+      let free = inside x y hx hy in
+      (λ z. grind (arith, mark, free), λ t. grind (arith, mark, free))
 
   pub marks_agree : Agree (left window) (top window) (Unmarked marks (width_of window) (height_of window)) (λ x y. T (passable g window m boxes x y))
   unfolding passable
   marks_agree = record {
-    out = λ x y u. unmarked (passable g window m boxes (left window + x) (top window + y)) (sym (k.mark x y u.0 u.1) ∙ u.2);
+    out = λ x y u. grind (arith, k.mark x y u.0 u.1, u.2);
     back = λ x y f. at x y f (center_held s x y (left_of (holds window (pos x) (pos y)) (free g m boxes x y) f));
   }
     where
       at : (x y : ℕ) → T (passable g window m boxes x y) → (left window ≤ x) × (x < left window + width_of window) × (top window ≤ y) × (y < top window + height_of window)
           → (left window ≤ x) × (top window ≤ y) × Unmarked marks (width_of window) (height_of window) (x - left window) (y - top window)
-      at x y f i =
-          let ex : x ≡ left window + (x - left window) = omega arith in
-          let ey : y ≡ top window + (y - top window) = omega arith in
-          let u : x - left window < width_of window = omega arith in
-          let v : y - top window < height_of window = omega arith in
-          let t : T (passable g window m boxes (left window + (x - left window)) (top window + (y - top window))) =
-          subst (λ (b : ℕ). T (passable g window m boxes (left window + (x - left window)) b)) ey (subst (λ (a : ℕ). T (passable g window m boxes a y)) ex f) in
-          (i.0, i.2, (u, v, k.mark (x - left window) (y - top window) u v ∙ zero_mark (passable g window m boxes (left window + (x - left window)) (top window + (y - top window))) t))
+      at x y f i = grind (arith, k.mark (x - left window) (y - top window))
 
 -- ---- a query that the checks accept is ready
 pub valid_ready : (g : Ground) (q : WallQuery) → Valid g q → Ready g q.window q.plan
@@ -78,23 +62,9 @@ valid_ready g q v = record {
   window = v.window;
 }
 
--- ---- the window's frame
+-- ---- from counts to marks
 module _ (g : Ground) (window : PixelRect) (p : Plan) (ready : Ready g window p) where
-  pub framed : (area : List ℕ) → (width_of window + 1) * (height_of window + 1) ≤ length area → Framed (frame_of window) area
-  framed area h = record {
-    left = omega (arith, ready.window.right_in, ready.ground.wide);
-    top = omega (arith, ready.window.bottom_in, ready.ground.high);
-    width = omega (arith, ready.window.right_in, ready.ground.wide);
-    height = omega (arith, ready.window.bottom_in, ready.ground.high);
-    room = omega (arith, mul_comm (width_of window + 1) (height_of window + 1));
-  }
-
-  -- ---- from counts to marks
   module _ (m : CollisionBounds) {base plan : List ℕ} {was now : TestAreas} (ground-count : Counted (width_of window) (height_of window) (blocked g (frame_of window) m (before g)) base was.base) (plan-count : Counted (width_of window) (height_of window) (stops (frame_of window) m (map collision_box (built p))) plan was.plan) (settled : Settled (width_of window) (height_of window) was now) where
-    same_or : (t : Bool) → t || t ≡ t
-    same_or true = refl
-    same_or false = refl
-
     passed : (boxes : List PixelRect) (x y : ℕ) → x < width_of window → y < height_of window
         → mark_of (blocked g (frame_of window) m boxes x y) ≡ mark_of (not (passable g window m boxes (left window + x) (top window + y)))
     unfolding passable
@@ -102,40 +72,32 @@ module _ (g : Ground) (window : PixelRect) (p : Plan) (ready : Ready g window p)
 
     pub marks_shown : Shown g window m p was.marks now.marks
     marks_shown = record {
-      baseline = record {
-        mark = λ x y hx hy.
-            get_or-take (width_of window * height_of window) now.marks (y * width_of window + x) 0 (low x y hx hy)
-            ∙ settled.baseline x y hx hy
-            ∙ ap mark_of (same_or (ltb 0 (get_or was.base (y * (width_of window + 1) + x) 0)) ∙ ground-count.above x y hx hy)
-            ∙ passed (before g) x y hx hy;
-      };
+      baseline = record { mark = λ x y hx hy. grind (arith, common_steps, low x y hx hy, settled.baseline x y hx hy, ground-count.above x y hx hy, passed (before g) x y hx hy) };
       planned = record {
         mark = λ x y hx hy.
-            get_or-take (width_of window * height_of window) (drop (width_of window * height_of window) now.marks) (y * width_of window + x) 0 (low x y hx hy)
-            ∙ get_or-drop (width_of window * height_of window) now.marks (y * width_of window + x) 0
-            ∙ ap (λ (n : ℕ). get_or now.marks (n + (y * width_of window + x)) 0) (mul_comm (width_of window) (height_of window))
-            ∙ settled.planned x y hx hy
-            ∙ ap mark_of (either x y hx hy ∙ blocked_after g (frame_of window) m x y (built p))
-            ∙ passed (after g (built p)) x y hx hy;
+            grind (
+              arith,
+              common_steps,
+              low x y hx hy,
+              settled.planned x y hx hy,
+              ground-count.above x y hx hy,
+              plan-count.above x y hx hy,
+              blocked_after g (frame_of window) m x y (built p),
+              passed (after g (built p)) x y hx hy,
+            );
       };
       rest = rw twice settled.rest;
     }
       where
         low : (x y : ℕ) → x < width_of window → y < height_of window → y * width_of window + x < width_of window * height_of window
-        low x y hx hy = omega (arith, row_below (width_of window) x y (height_of window) hx hy, mul_comm (width_of window) (height_of window))
+        low x y hx hy = grind arith
 
         twice : 2 * (width_of window * height_of window) ≡ height_of window * width_of window + height_of window * width_of window
-        twice = omega (arith, mul_comm (width_of window) (height_of window))
-
-        either : (x y : ℕ) → x < width_of window → y < height_of window
-            → covered was.base was.plan (y * (width_of window + 1) + x) ≡ blocked g (frame_of window) m (before g) x y || stops (frame_of window) m (map collision_box (built p)) x y
-        either x y hx hy = rw (ground-count.above x y hx hy, plan-count.above x y hx hy)
+        twice = grind arith
 
     left_zero : (a b c : List ℕ) → c ≡ cleared ((height_of window + 1) * (width_of window + 1)) b → drop ((height_of window + 1) * (width_of window + 1)) b ≡ drop ((height_of window + 1) * (width_of window + 1)) a
         → c ≡ cleared ((width_of window + 1) * (height_of window + 1)) a
-    left_zero a b c e r =
-        rw (mul_comm (width_of window + 1) (height_of window + 1))
-        (e ∙ cleared_alike ((height_of window + 1) * (width_of window + 1)) a b r)
+    left_zero a b c e r = grind (arith, common_steps)
 
     pub shown : Centers g window m p (areas base plan was.marks) now
     shown = record { marks = marks_shown; base = left_zero base was.base now.base settled.base ground-count.rest; plan = left_zero plan was.plan now.plan settled.plan plan-count.rest }
@@ -149,8 +111,6 @@ pub center_marks : (g : Ground) (window : PixelRect) (m : CollisionBounds) (p : 
 center_marks g window m p was now ready c x y hx hy =
     let w = width_of window in
     let h = height_of window in
-    let low : y * w + x < w * h = omega (arith, row_below w x y h hx hy, mul_comm w h) in (
-      rw (get_or-take (w * h) now.marks (y * w + x) 0 low) at (free_exactly g window m (before g) (take (w * h) now.marks) ready.window c.marks.baseline x y hx hy),
-      rw (get_or-take (w * h) (drop (w * h) now.marks) (y * w + x) 0 low, get_or-drop (w * h) now.marks (y * w + x) 0) at
-          (free_exactly g window m (after g (built p)) (take (w * h) (drop (w * h) now.marks)) ready.window c.marks.planned x y hx hy),
-    )
+    let first = free_exactly g window m (before g) (take (w * h) now.marks) ready.window c.marks.baseline x y hx hy in
+    let second = free_exactly g window m (after g (built p)) (take (w * h) (drop (w * h) now.marks)) ready.window c.marks.planned x y hx hy in
+    let low : y * w + x < w * h = grind arith in (rw (get_or-take (w * h) now.marks (y * w + x) 0 low) at first, rw (get_or-take (w * h) (drop (w * h) now.marks) (y * w + x) 0 low, get_or-drop (w * h) now.marks (y * w + x) 0) at second)

@@ -1,5 +1,5 @@
 -- What the passes over the marks promise one another. Assumes nothing.
-use Rattle.std.specs.Prelude.{◌≡◌, Bool, ◌||◌, List, ◌⊎◌, ℕ, ◌+◌, ◌*◌, ◌≤◌, ◌<◌, ltb, get_or, drop}
+use Rattle.std.specs.Prelude.{◌≡◌, Bool, ◌||◌, List, ℕ, ◌+◌, ◌*◌, ◌≤◌, ◌<◌, ltb, length, get_or, drop}
 use Rattle.model.specs.Areas.{cleared}
 use Rattle.model.specs.RouteTest.{TestAreas}
 use Rattle.marks.specs.Marks.{mark_of}
@@ -8,15 +8,14 @@ use Rattle.marks.specs.Marks.{mark_of}
 abbrev pub covered : List ℕ → List ℕ → ℕ → Bool
 covered base plan i = ltb 0 (get_or base i 0) || ltb 0 (get_or plan i 0)
 
--- n marks from place to on, by the counts from place from on
-pub record Row (to from n : ℕ) (base plan was now : List ℕ) : Type 0 where
-  pub mark : (i : ℕ) → i < n → get_or now (to + i) 0 ≡ mark_of (covered base plan (from + i))
-  pub rest : (k : ℕ) → (k < to) ⊎ (to + n ≤ k) → get_or now k 0 ≡ get_or was k 0
+-- the marks of a row, by the counts of its centers
+pub record Row (base plan was now : List ℕ) : Type 0 where
+  pub mark : (i : ℕ) → i < length was → get_or now i 0 ≡ mark_of (covered base plan i)
 
--- the marks of the first rows of a window w centers wide, from place at on
-pub record Part (at w rows : ℕ) (base plan was now : List ℕ) : Type 0 where
-  pub mark : (x y : ℕ) → x < w → y < rows → get_or now (at + (y * w + x)) 0 ≡ mark_of (covered base plan (y * (w + 1) + x))
-  pub rest : (k : ℕ) → (k < at) ⊎ (at + rows * w ≤ k) → get_or now k 0 ≡ get_or was k 0
+-- the marks of the first rows of a window w centers wide; those beyond are as they were
+pub record Part (w rows : ℕ) (base plan was now : List ℕ) : Type 0 where
+  pub mark : (x y : ℕ) → x < w → y < rows → get_or now (y * w + x) 0 ≡ mark_of (covered base plan (y * (w + 1) + x))
+  pub rest : (k : ℕ) → rows * w ≤ k → get_or now k 0 ≡ get_or was k 0
 
 -- Both parts of the marks of a window of w by h centers, by the ground's counts alone and by both. The counts are zero afterwards.
 pub record Settled (w h : ℕ) (was now : TestAreas) : Type 0 where

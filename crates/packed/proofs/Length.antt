@@ -1,7 +1,7 @@
 -- Which of 18 and 19 a packed query is refused with, by its length and its filling bits. Assumes nothing.
 use mathlib.Core.Path.{◌≡◌}
 use mathlib.Core.List.{List, []}
-use mathlib.Core.Option.{none, some}
+use Rattle.std.specs.Prelude.{Some, None}
 use Prim.Native.Nat.{ℕ, ◌-◌, ◌*◌, ◌≤◌, ◌<◌}
 use native.Mathlib.Omega.{arith}
 use lib.ListN.{length}
@@ -11,8 +11,8 @@ use Rattle.model.specs.Packed.{field_at, area_in, bits_in, bytes_in, packed_line
 use Rattle.packed.specs.declared.Header.{Header}
 use Rattle.packed.specs.Reading.{HeaderIs, bits_of}
 
-pub bits_of_header : {s : List ℕ} {h : Header} → HeaderIs s h → bits_of h ≡ bits_in s
-bits_of_header e = rw (e.width, e.height, e.obstacles, e.buildings)
+pub bits_of_header : {s : List ℕ} {h : Header} {n : ℕ} → HeaderIs s h → n ≡ bits_of h → n ≡ bits_in s
+bits_of_header e m = rw (m, e.width, e.height, e.obstacles, e.buildings)
 
 pub area_of_header : {s : List ℕ} {h : Header} → HeaderIs s h → h.width * h.height ≡ area_in s
 area_of_header e = rw (e.width, e.height)
@@ -26,18 +26,18 @@ module _ (s : List ℕ) where
   abbrev fill : ℕ
   fill = field_at s (bits_in s) (8 * bytes_in s - bits_in s)
 
-  pub too_short : length s < bytes_in s → some (refuse 18 []) ≡ first (packed_lines s)
+  pub too_short : length s < bytes_in s → Some (refuse 18 []) ≡ first (packed_lines s)
   unfolding first packed_lines
   too_short h = rw (lt-ltb (length s) (bytes_in s) h)
 
-  pub too_long : bytes_in s < length s → some (refuse 19 []) ≡ first (packed_lines s)
+  pub too_long : bytes_in s < length s → Some (refuse 19 []) ≡ first (packed_lines s)
   unfolding first packed_lines
   too_long h = rw (le-ltb (length s) (bytes_in s) (omega arith), le-ltb (length s) 5 (omega (arith, least)), lt-ltb (bytes_in s) (length s) h)
 
-  pub bit_set : length s ≡ bytes_in s → (fill ≡ 0 → ⊥) → some (refuse 19 []) ≡ first (packed_lines s)
+  pub bit_set : length s ≡ bytes_in s → (fill ≡ 0 → ⊥) → Some (refuse 19 []) ≡ first (packed_lines s)
   unfolding first packed_lines
   bit_set e h = rw (le-ltb (length s) (bytes_in s) (omega arith), le-ltb (length s) 5 (omega (arith, least)), le-ltb (bytes_in s) (length s) (omega arith), ne_eqb fill 0 h)
 
-  pub whole : length s ≡ bytes_in s → fill ≡ 0 → none ≡ first (packed_lines s)
+  pub whole : length s ≡ bytes_in s → fill ≡ 0 → None ≡ first (packed_lines s)
   unfolding first packed_lines
   whole e h = rw (le-ltb (length s) (bytes_in s) (omega arith), le-ltb (length s) 5 (omega (arith, least)), le-ltb (bytes_in s) (length s) (omega arith), eq-eqb fill 0 h)

@@ -4,16 +4,14 @@
 ghost use Rattle.std.specs.Prelude.{◌≡◌, List, ◌++◌, ℕ, ◌*◌, ◌≤◌, ◌<◌, length};
 ghost use Rattle.model.specs.Refusal.{given, first};
 ghost use Rattle.model.specs.Areas.{room_lines};
-ghost use Rattle.model.specs.Packed.{header_in, area_in, no_packed, packed_lines, ReadAreas, read_rooms, ReadLeaves, ReadAnswers};
+ghost use Rattle.model.specs.Packed.{header_in, area_in, packed_lines, ReadAreas, read_rooms, ReadLeaves, ReadAnswers};
 ghost use Rattle.packed.specs.Reading.{HeaderIs, Small, bits_of};
 
 use bits::Bits;
-use model::{
-    Outcome, PackedQuery, PackedReply, PixelPosition, PixelRect, Plan, Room, WallError, WallQuery,
-};
+use model::{PackedQuery, Room, WallError};
 
 // The first 40 bits.
-#[derive(Clone, Copy)]
+#[derive(Clone, Copy, Debug, PartialEq, Eq)]
 pub struct Header {
     pub width: u32,
     pub height: u32,
@@ -55,92 +53,60 @@ fn needed_bits(h: Header) -> usize
 }
 
 // 18 and 19: as many bytes as the header's counts need, and no filling bit set.
-fn validate_length(s: &[u8]) -> Outcome
+fn validate_length(s: &[u8]) -> Result<(), WallError>
     ensures { given result ≡ first (packed_lines s.now) }
 {
     let bits = needed_bits(read_header(s));
     let bytes = (bits + 7) / 8;
     if s.len() < bytes {
-        return Outcome::Refused(WallError::PackedShort);
+        return Err(WallError::PackedShort);
     }
     if bytes < s.len() {
-        return Outcome::Refused(WallError::PackedTail);
+        return Err(WallError::PackedTail);
     }
     let fill = Bits { at: bits }.get(s, (8 * bytes - bits) as u32);
     if fill.value != 0 {
-        return Outcome::Refused(WallError::PackedTail);
+        return Err(WallError::PackedTail);
     }
-    Outcome::Accepted
+    Ok(())
 }
 
 // 17 of reading: areas 0 and 1 of these lengths.
-fn read_room(h: Header, cells: usize, words: usize) -> Outcome
+fn read_room(h: Header, cells: usize, words: usize) -> Result<(), WallError>
     requires { Small h }
     ensures { (s : List ℕ) (a : ReadAreas) → HeaderIs s h → cells ≡ length a.cells → words ≡ length a.words → given result ≡ first (room_lines (read_rooms s a)) }
 {
-    let needs = area(h);
-    let first = Room {
-        area: 0,
-        has: cells,
-        needs,
-    };
-    let last = Room {
-        area: 1,
-        has: words,
-        needs: 4 * h.obstacles,
-    };
-    rooms::room_too_small([first, last, last, last, last, last, last], 2)
+    rooms::room_too_small(&[
+        Room {
+            area: 0,
+            has: cells,
+            needs: area(h),
+        },
+        Room {
+            area: 1,
+            has: words,
+            needs: 4 * h.obstacles,
+        },
+    ])
 }
 
 // 18, 19, 17, in that order, for areas 0 and 1 of these lengths.
-fn validate_read(s: &[u8], cells: usize, words: usize) -> Outcome
+fn validate_read(s: &[u8], cells: usize, words: usize) -> Result<(), WallError>
     ensures { (a : ReadAreas) → cells ≡ length a.cells → words ≡ length a.words → given result ≡ first (packed_lines s.now ++ room_lines (read_rooms s.now a)) }
 {
     let told = validate_length(s);
-    let Outcome::Accepted = told else {
+    let Ok(()) = told else {
         return told;
     };
     let h = read_header(s);
     read_room(h, cells, words)
 }
 
-// What stands beside a refusal.
-fn no_packed() -> PackedQuery
-    ensures { result ≡ no_packed }
-{
-    let rect = PixelRect {
-        left: 0,
-        top: 0,
-        right: 0,
-        bottom: 0,
-    };
-    let point = PixelPosition { x: 0, y: 0 };
-    let none = bits::no_building();
-    let mover = none.collision;
-    let plan = Plan {
-        buildings: [none; 32],
-        count: 0,
-    };
-    let query = WallQuery {
-        window: rect,
-        start: point,
-        end: point,
-        mover,
-        plan,
-    };
-    PackedQuery {
-        width: 0,
-        height: 0,
-        obstacles: 0,
-        query,
-    }
-}
-
 // Everything behind the header, once there is enough of it and room for it.
 fn read_all(h: Header, s: &[u8], cells: &mut [u8], words: &mut [i32]) -> PackedQuery
     requires header_is { HeaderIs s.now h }
     requires s_in_bounds { (area_in s.now ≤ length cells.old) × (4 * (header_in s.now).obstacles ≤ length words.old) }
-    ensures { ReadLeaves s.now (record { cells = cells.old; words = words.old }) (record { cells = cells.new; words = words.new }) Outcome.Accepted result }
+    ensures { ReadLeaves s.now (record { cells = cells.old; words = words.old }) (record { cells = cells.new; words = words.new }) (Ok result) }
 {
     let n = area(h);
     let k = 4 * h.obstacles;
@@ -156,21 +122,10 @@ fn read_all(h: Header, s: &[u8], cells: &mut [u8], words: &mut [i32]) -> PackedQ
 }
 
 // Reads a packed query: the cells to area 0, the obstacles' words to area 1, the rest to the answer.
-pub fn read_packed(s: &[u8], cells: &mut [u8], words: &mut [i32]) -> PackedReply
+pub fn read_packed(s: &[u8], cells: &mut [u8], words: &mut [i32]) -> Result<PackedQuery, WallError>
     ensures { ReadAnswers s.now (record { cells = cells.old; words = words.old }) (record { cells = cells.new; words = words.new }) result }
 {
-    let told = validate_read(s, cells.len(), words.len());
-    let Outcome::Accepted = told else {
-        let packed = no_packed();
-        return PackedReply {
-            outcome: told,
-            packed,
-        };
-    };
+    validate_read(s, cells.len(), words.len())?;
     let h = read_header(s);
-    let packed = read_all(h, s, cells, words);
-    PackedReply {
-        outcome: told,
-        packed,
-    }
+    Ok(read_all(h, s, cells, words))
 }

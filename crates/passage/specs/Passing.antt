@@ -1,20 +1,22 @@
 -- One mover's passage between one pair of ends: what is answered, and what the areas 3 to 8 then hold. Assumes nothing.
-use Rattle.std.specs.Prelude.{◌≡◌, Bool, true, false, List, map, ℕ, ◌≤◌, T, length}
+use Rattle.std.specs.Prelude.{◌≡◌, Bool, true, false, List, map, ℕ, ◌≤◌, T, length, Option, None, Some, Result, Ok, Err}
 use Rattle.model.specs.declared.PixelRect.{PixelRect}
 use Rattle.model.specs.declared.PixelPosition.{PixelPosition}
 use Rattle.model.specs.declared.CollisionBounds.{CollisionBounds}
 use Rattle.model.specs.declared.Plan.{Plan}
 use Rattle.model.specs.declared.Passed.{Passed}
+use Rattle.model.specs.declared.WallEndpoint.{WallEndpoint}
+use Rattle.model.specs.declared.WallEndpoint.TheVariants.{Start, End}
 use Rattle.model.specs.declared.WallPassage.{WallPassage}
 use Rattle.model.specs.declared.WallPassage.TheVariants.{StartBlocked, EndBlocked, Open, AlreadyDisconnected, BlockedWithinWindow}
 use Rattle.model.specs.Ground.{Ground, built}
-use Rattle.model.specs.Steps.{Joined, IsRoute, point_word}
+use Rattle.model.specs.Steps.{point_word}
 use Rattle.model.specs.Passage.{Passage, Passing}
 use Rattle.model.specs.Areas.{difference_room, mark_room, center_room, begun, cleared}
 use Rattle.model.proofs.Shifted.{Agree}
+use Rattle.stamps.specs.declared.Frame.{Frame}
 use Rattle.marks.specs.Marks.{Unmarked}
-use Rattle.passage.specs.declared.Looked.{Looked}
-use Rattle.passage.specs.declared.Looked.TheVariants.{NoStart, NoEnd, Led, NoWay}
+use Rattle.route.specs.Answer.{Answers}
 
 -- The areas 3 to 8.
 pub record PassAreas : Type 0 where
@@ -54,43 +56,29 @@ pub record PassAnswers (g : Ground) (window : PixelRect) (m : CollisionBounds) (
   pub passing : Passing g window (built plan) m s e r centers
   pub areas : now ≡ pass_left window centers was
 
--- What a look at the centers after the plan finds: the start or the end blocked, a route of so many points whose words stand first in the area, or no chain.
-pub record LedBy (free : ℕ → ℕ → Type 0) (s e : PixelPosition) (n : ℕ) (was now : List ℕ) : Type 0 where
-  pub centers : List PixelPosition
-  pub route : IsRoute free s e centers
-  pub end_free : free e.x e.y
-  pub count : n ≡ length centers
-  pub words : now ≡ begun (map point_word centers) was
-
-pub record NoneBy (free : ℕ → ℕ → Type 0) (s e : PixelPosition) (was now : List ℕ) : Type 0 where
-  pub start_free : free s.x s.y
-  pub end_free : free e.x e.y
-  pub none : Joined free s e → ⊥
-  pub same : now ≡ was
-
-abbrev pub Finds : (ℕ → ℕ → Type 0) → PixelPosition → PixelPosition → List ℕ → List ℕ → Looked → Type 0
-Finds free s e was now NoStart = (free s.x s.y → ⊥) × (now ≡ was)
-Finds free s e was now NoEnd = free s.x s.y × (free e.x e.y → ⊥) × (now ≡ was)
-Finds free s e was now (Led n) = LedBy free s e n was now
-Finds free s e was now NoWay = NoneBy free s e was now
+-- What a look at the centers after the plan finds: the start or the end blocked, or what the search between them answers.
+abbrev pub Finds : (ℕ → ℕ → Type 0) → PixelPosition → PixelPosition → List ℕ → List ℕ → Result (Option ℕ) WallEndpoint → Type 0
+Finds free s e was now (Err Start) = (free s.x s.y → ⊥) × (now ≡ was)
+Finds free s e was now (Err End) = free s.x s.y × (free e.x e.y → ⊥) × (now ≡ was)
+Finds free s e was now (Ok r) = free s.x s.y × free e.x e.y × Answers free s e was now r
 
 -- a look, with the working areas left as they came
-pub record Looks (free : ℕ → ℕ → Type 0) (s e : PixelPosition) (parents parents' queue queue' was now : List ℕ) (r : Looked) : Type 0 where
+pub record Looks (free : ℕ → ℕ → Type 0) (s e : PixelPosition) (parents parents' queue queue' was now : List ℕ) (r : Result (Option ℕ) WallEndpoint) : Type 0 where
   pub finds : Finds free s e was now r
   pub parents_left : parents' ≡ parents
   pub queue_left : queue' ≡ queue
 
 -- the verdict of a look that found no route, with the baseline b
-abbrev pub verdict_of : Looked → Bool → WallPassage
-verdict_of NoStart b = StartBlocked
-verdict_of NoEnd b = EndBlocked
-verdict_of (Led n) b = Open
-verdict_of NoWay true = BlockedWithinWindow
-verdict_of NoWay false = AlreadyDisconnected
+abbrev pub verdict_of : Result (Option ℕ) WallEndpoint → Bool → WallPassage
+verdict_of (Err Start) b = StartBlocked
+verdict_of (Err End) b = EndBlocked
+verdict_of (Ok (Some n)) b = Open
+verdict_of (Ok None) true = BlockedWithinWindow
+verdict_of (Ok None) false = AlreadyDisconnected
 
 -- The marks before the plan and after it decide: whatever they say of the map's centers, if what is free after the plan was free before it.
-pub record Judges (left top w h : ℕ) (before after : List ℕ) (s e : PixelPosition) (parents parents' queue queue' was now : List ℕ) (r : Passed) : Type 0 where
+pub record Judges (f : Frame) (before after : List ℕ) (s e : PixelPosition) (parents parents' queue queue' was now : List ℕ) (r : Passed) : Type 0 where
   pub parents_left : parents' ≡ parents
   pub queue_left : queue' ≡ queue
-  pub passage : (B A : ℕ → ℕ → Bool) → Agree left top (Unmarked before w h) (λ x y. T (B x y)) → Agree left top (Unmarked after w h) (λ x y. T (A x y)) → ((x y : ℕ) → T (A x y) → T (B x y))
+  pub passage : (B A : ℕ → ℕ → Bool) → Agree f.left f.top (Unmarked before f.width f.height) (λ x y. T (B x y)) → Agree f.left f.top (Unmarked after f.width f.height) (λ x y. T (A x y)) → ((x y : ℕ) → T (A x y) → T (B x y))
       → (cs : List PixelPosition) × Passage (λ x y. T (B x y)) (λ x y. T (A x y)) s e r cs × (now ≡ begun (map point_word cs) was)

@@ -1,75 +1,56 @@
 // One mover's passage between one pair of ends: the centers are marked, searched after the plan, and before the plan only where that is not settled.
 #![tactic(auto)]
 
-ghost use Rattle.std.specs.Prelude.{◌≡◌, ◌+◌, ◌*◌, ◌≤◌, length, take, drop};
-ghost use Rattle.model.specs.Ground.{ground};
+ghost use Rattle.std.specs.Prelude.{◌≡◌, ◌+◌, ◌≤◌, length, take, drop};
+ghost use Rattle.model.specs.Ground.{seen};
 ghost use Rattle.model.specs.Areas.{cleared};
 ghost use Rattle.model.specs.Accepted.{Within};
 ghost use Rattle.marks.specs.Marks.{Ready};
 ghost use Rattle.search.specs.Places.{Blank};
-ghost use Rattle.way_back.specs.Ways.{Window};
+ghost use Rattle.way_back.specs.Ways.{Window, size};
 ghost use Rattle.route.specs.Answer.{Clear, Inside, Lent};
 ghost use Rattle.passage.specs.Passing.{Looks, Judges, PassEnough, PassAnswers, pass_areas, verdict_of};
 
-use model::{CollisionBounds, Passed, PixelPosition, PixelRect, Plan, WallPassage};
-use route::Way;
+use model::{
+    CollisionBounds, Ground, Passed, PixelPosition, PixelRect, Plan, WallEndpoint, WallPassage,
+};
 use stamps::Frame;
 
-// What a look at the centers after the plan finds.
-#[derive(Clone, Copy)]
-enum Looked {
-    NoStart,
-    NoEnd,
-    Led(usize),
-    NoWay,
-}
-
-// Looks for a way from `start` to `end` by the marks after the plan. The working areas come as zeros, and are left so.
+// Looks for a way from `start` to `end` by the marks after the plan: the number of its points, if there is one, or the end that
+// is blocked. The working areas come as zeros, and are left so.
 fn look(
     after: &[u8],
-    w: usize,
-    h: usize,
-    left: usize,
-    top: usize,
+    frame: Frame,
     parents: &mut [u32],
     queue: &mut [u32],
     out: &mut [u32],
     start: PixelPosition,
     end: PixelPosition,
-) -> Looked
-    requires window { Window left top w h × Inside left top w h start × Inside left top w h end }
-    requires lent { Lent w h after.now parents.old queue.old × (w * h ≤ length out.old) }
-    requires blank { Blank (w * h) parents.old × Blank (w * h) queue.old }
-    ensures { Looks (Clear after.now left top w h) start end parents.old parents.new queue.old queue.new out.old out.new result }
+) -> Result<Option<usize>, WallEndpoint>
+    requires window { Window frame × Inside frame start × Inside frame end }
+    requires lent { Lent frame after.now parents.old queue.old × (size frame ≤ length out.old) }
+    requires blank { Blank (size frame) parents.old × Blank (size frame) queue.old }
+    ensures { Looks (Clear after.now frame) start end parents.old parents.new queue.old queue.new out.old out.new result }
 {
-    if !route::is_clear(after, w, h, left, top, start) {
-        return Looked::NoStart;
+    if !route::is_clear(after, frame, start) {
+        return Err(WallEndpoint::Start);
     }
-    if !route::is_clear(after, w, h, left, top, end) {
-        return Looked::NoEnd;
+    if !route::is_clear(after, frame, end) {
+        return Err(WallEndpoint::End);
     }
-    let way = route::find_route(after, w, h, left, top, parents, queue, out, start, end);
-    let Way::Found(points) = way else {
-        return Looked::NoWay;
-    };
-    Looked::Led(points)
+    Ok(route::find_route(after, frame, parents, queue, out, start, end))
 }
 
 // The verdict that a look and the baseline give.
-fn verdict(looked: Looked, baseline: bool) -> WallPassage
+fn verdict(looked: Result<Option<usize>, WallEndpoint>, baseline: bool) -> WallPassage
     ensures { result ≡ verdict_of looked baseline }
 {
     match looked {
-        Looked::NoStart => WallPassage::StartBlocked,
-        Looked::NoEnd => WallPassage::EndBlocked,
-        Looked::Led(_) => WallPassage::Open,
-        Looked::NoWay => {
-            if baseline {
-                WallPassage::BlockedWithinWindow
-            } else {
-                WallPassage::AlreadyDisconnected
-            }
-        }
+        Err(WallEndpoint::Start) => WallPassage::StartBlocked,
+        Err(WallEndpoint::End) => WallPassage::EndBlocked,
+        Ok(Some(_)) => WallPassage::Open,
+        Ok(None) if baseline => WallPassage::BlockedWithinWindow,
+        Ok(None) => WallPassage::AlreadyDisconnected,
     }
 }
 
@@ -78,30 +59,27 @@ fn verdict(looked: Looked, baseline: bool) -> WallPassage
 fn judge(
     before: &[u8],
     after: &[u8],
-    w: usize,
-    h: usize,
-    left: usize,
-    top: usize,
+    frame: Frame,
     parents: &mut [u32],
     queue: &mut [u32],
     out: &mut [u32],
     start: PixelPosition,
     end: PixelPosition,
 ) -> Passed
-    requires window { Window left top w h × Inside left top w h start × Inside left top w h end }
-    requires lent { Lent w h before.now parents.old queue.old × Lent w h after.now parents.old queue.old × (w * h ≤ length out.old) }
-    requires blank { Blank (w * h) parents.old × Blank (w * h) queue.old }
-    ensures { Judges left top w h before.now after.now start end parents.old parents.new queue.old queue.new out.old out.new result }
+    requires window { Window frame × Inside frame start × Inside frame end }
+    requires lent { Lent frame before.now parents.old queue.old × Lent frame after.now parents.old queue.old × (size frame ≤ length out.old) }
+    requires blank { Blank (size frame) parents.old × Blank (size frame) queue.old }
+    ensures { Judges frame before.now after.now start end parents.old parents.new queue.old queue.new out.old out.new result }
 {
-    let looked = look(after, w, h, left, top, parents, queue, out, start, end);
-    if let Looked::Led(points) = looked {
+    let looked = look(after, frame, parents, queue, out, start, end);
+    if let Ok(Some(points)) = looked {
         return Passed {
             passage: WallPassage::Open,
             baseline_passable: true,
             points,
         };
     }
-    let baseline = route::find_chain(before, w, h, left, top, parents, queue, start, end);
+    let baseline = route::find_chain(before, frame, parents, queue, start, end);
     Passed {
         passage: verdict(looked, baseline),
         baseline_passable: baseline,
@@ -112,33 +90,27 @@ fn judge(
 // The same by the marks of a frame's centers, those before the plan first and those after it behind them, with working areas that
 // come with anything and end as zeros.
 fn judged(
-    frame: Frame,
     marks: &[u8],
+    frame: Frame,
     parents: &mut [u32],
     queue: &mut [u32],
     out: &mut [u32],
     start: PixelPosition,
     end: PixelPosition,
 ) -> Passed
-    requires window { Window frame.left frame.top frame.width frame.height × Inside frame.left frame.top frame.width frame.height start × Inside frame.left frame.top frame.width frame.height end }
-    requires height_in_bounds { (frame.width * frame.height + frame.width * frame.height ≤ length marks.now) × (frame.width * frame.height ≤ length parents.old) × (frame.width * frame.height ≤ length queue.old) × (frame.width * frame.height ≤ length out.old) }
-    ensures { Judges frame.left frame.top frame.width frame.height (take (frame.width * frame.height) marks.now) (take (frame.width * frame.height) (drop (frame.width * frame.height) marks.now)) start end (cleared (frame.width * frame.height) parents.old) parents.new (cleared (frame.width * frame.height) queue.old) queue.new out.old out.new result }
+    requires window { Window frame × Inside frame start × Inside frame end }
+    requires marks_long { size frame + size frame ≤ length marks.now }
+    requires room { (size frame ≤ length parents.old) × (size frame ≤ length queue.old) × (size frame ≤ length out.old) }
+    ensures { Judges frame (take (size frame) marks.now) (take (size frame) (drop (size frame) marks.now)) start end (cleared (size frame) parents.old) parents.new (cleared (size frame) queue.old) queue.new out.old out.new result }
 {
-    let w = frame.width;
-    let h = frame.height;
-    let left = frame.left as usize;
-    let top = frame.top as usize;
-    let n = w * h;
-    let both = n + n;
-    grid::clear(parents, n);
-    grid::clear(queue, n);
+    let n = frame.width * frame.height;
+    let planned = &marks[n..];
+    parents[..n].fill(0);
+    queue[..n].fill(0);
     judge(
         &marks[..n],
-        &marks[n..both],
-        w,
-        h,
-        left,
-        top,
+        &planned[..n],
+        frame,
         parents,
         queue,
         out,
@@ -150,10 +122,7 @@ fn judged(
 // One mover's passage between one pair of ends, over the ground and after the plan. The route's words stand first in `out`, and the
 // working areas end as zeros up to their numbers.
 pub fn passage(
-    width: u32,
-    height: u32,
-    cells: &[u8],
-    words: &[i32],
+    ground: Ground<'_>,
     window: PixelRect,
     mover: CollisionBounds,
     plan: Plan,
@@ -166,15 +135,13 @@ pub fn passage(
     queue: &mut [u32],
     out: &mut [u32],
 ) -> Passed
-    requires ready { Ready (ground width height cells.now words.now) window plan × Within window start × Within window end }
+    requires ready { Ready (seen ground) window plan × Within window start × Within window end }
     requires pass_enough { PassEnough window (pass_areas base.old planned.old marks.old parents.old queue.old out.old) }
-    ensures { PassAnswers (ground width height cells.now words.now) window mover plan start end (pass_areas base.old planned.old marks.old parents.old queue.old out.old) (pass_areas base.new planned.new marks.new parents.new queue.new out.new) result }
+    ensures { PassAnswers (seen ground.entry) window mover plan start end (pass_areas base.old planned.old marks.old parents.old queue.old out.old) (pass_areas base.new planned.new marks.new parents.new queue.new out.new) result }
 {
-    marks::mark_centers(
-        width, height, cells, words, window, mover, plan, base, planned, marks,
-    );
+    marks::mark_centers(ground, window, mover, plan, base, planned, marks);
     let frame = marks::frame_of(window);
-    let passed = judged(frame, marks, parents, queue, out, start, end);
-    marks::clear_marks(marks, 2 * (frame.width * frame.height));
+    let passed = judged(marks, frame, parents, queue, out, start, end);
+    marks[..2 * (frame.width * frame.height)].fill(0);
     passed
 }

@@ -1,6 +1,6 @@
 -- The laws that the proofs of several functions cite.
 pub mod Each
 pub mod Plans
-pub mod Parts
 pub mod Counts
+pub mod Parts
 pub mod Assessed

@@ -1,5 +1,5 @@
 -- What is assessed. Assumes nothing.
-use Rattle.std.specs.Prelude.{◌≡◌, List, map, ℕ, ◌+◌, ◌*◌, ◌≤◌, length, get_or}
+use Rattle.std.specs.Prelude.{◌≡◌, List, map, ℕ, ◌*◌, ◌≤◌, length, get_or}
 use Rattle.model.specs.declared.WallBuilding.{WallBuilding}
 use Rattle.model.specs.declared.Plan.{Plan}
 use Rattle.model.specs.declared.WallPlacement.{WallPlacement}
@@ -9,7 +9,7 @@ use Rattle.model.specs.Refusal.{caps}
 use Rattle.model.specs.Areas.{begun}
 use Rattle.model.specs.Check.{padded}
 use Rattle.model.specs.Packed.{no_building}
-use Rattle.issue_words.specs.Issues.{Put}
+use Rattle.placement_issues.specs.Words.{Put}
 use Rattle.model.specs.Accepted.{Fitting}
 
 -- What validation has shown of the ground and of the plan.
@@ -22,10 +22,10 @@ pub record Assessable (g : Ground) (plan : Plan) : Type 0 where
 abbrev pub building_at : Plan → ℕ → WallBuilding
 building_at plan k = get_or (built plan) k no_building
 
--- Building b, with index k among the buildings bs, is assessed: both boxes and its issue count, and its issue words behind the first `at`.
-pub record OneAssessed (g : Ground) (bs : List WallBuilding) (k : ℕ) (b : WallBuilding) (was : List ℕ) (at : ℕ) (now : List ℕ) (r : WallPlacement) : Type 0 where
-  pub placed : r ≡ placement_of g bs k b
-  pub put : Put was at (map (issue_word k) (issues_of g bs k b)) now (at + r.issues)
+-- Building k is assessed: both boxes and its issue count, and its issue words first in the area.
+pub record OneAssessed (g : Ground) (plan : Plan) (k : ℕ) (was now : List ℕ) (r : WallPlacement) : Type 0 where
+  pub placed : r ≡ placement_of g (built plan) k (building_at plan k)
+  pub put : Put (map (issue_word k) (issues_of g (built plan) k (building_at plan k))) was now r.issues
 
 -- All buildings are: their placements, and all issue words first in the area, whose rest is as it was.
 pub record AllAssessed (g : Ground) (plan : Plan) (was now : List ℕ) (r : List WallPlacement) : Type 0 where

@@ -1,43 +1,36 @@
 -- A loop over a list that writes the word of each element that passes a test: what holds after i turns, and what follows from it. Assumes nothing.
-use mathlib.Core.Path.{sym, ap, subst, ◌∙◌}
-use mathlib.Core.Bool.{Bool}
-use mathlib.Core.List.{List, map}
+use mathlib.Core.Path.{◌≡◌, sym, ap, subst, ◌∙◌}
+use mathlib.Core.Bool.{Bool, true, false}
+use mathlib.Core.List.{List, map, append-nil}
 use Prim.Native.Nat.{ℕ, ◌+◌, ◌≤◌, ◌<◌}
 use native.Mathlib.Omega.{arith}
-use lib.ListN.{length, get_or, take, length-map}
+use lib.ListN.{length, get_or, take, set}
 use Rattle.model.specs.Lists.{places}
 use Rattle.model.specs.Placement.{Issue, issue_word}
-use Rattle.issue_words.specs.Issues.{Put, noted}
-use Rattle.issue_words.proofs.Puts.{nothing_put, put_length, then}
+use Rattle.placement_issues.specs.Words.{Put}
+use Rattle.placement_issues.proofs.Puts.{one_more}
 use Rattle.placement_issues.proofs.Each.{each, each_next, each_room, each_all, words_at, found_each}
 
-module _ {A : Type 0} (k : ℕ) (issue : ℕ → Issue) (test : ℕ → A → Bool) (l : List A) (was : List ℕ) (at : ℕ) where
-  -- the words of all elements that pass
-  abbrev all_words : List ℕ
-  all_words = map (issue_word k) (map issue (places test l))
+-- after i turns the words of the first i elements are written
+pub record Written {A : Type 0} (k : ℕ) (issue : ℕ → Issue) (test : ℕ → A → Bool) (l : List A) (i : ℕ) (was now : List ℕ) (n : ℕ) : Type 0 where
+  pub put : Put (each (words_at k issue test) (take i l)) was now n
 
-  -- after i turns the words of the first i elements are written
-  abbrev pub Written : ℕ → List ℕ → ℕ → Type 0
-  Written i now next = Put was at (each (words_at k issue test) (take i l)) now next
+module _ {A : Type 0} {k : ℕ} {issue : ℕ → Issue} {test : ℕ → A → Bool} {l : List A} {i : ℕ} {was now : List ℕ} {n : ℕ} (w : Written k issue test l i was now n) where
+  module _ (d : A) (h : i < length l) where
+    -- an element that fails the test
+    pub passed : test i (get_or l i d) ≡ false → Written k issue test l (i + 1) was now n
+    passed e =
+        record { put = rw (each_next (words_at k issue test) l i d h, e, append-nil (each (words_at k issue test) (take i l))) w.put }
 
-  pub at_first : at + length all_words ≤ length was → Written 0 was at
-  at_first h = nothing_put was at (omega arith)
+    module _ (room : length (map (issue_word k) (map issue (places test l))) ≤ length was) (e : test i (get_or l i d) ≡ true) where
+      -- one that passes it has room for its word
+      pub room_here : n < length was
+      room_here =
+          omega (arith, w.put.count, rw e at (each_room (words_at k issue test) l i d h), ap length (found_each k issue test 0 l))
 
-  module _ (d : A) {i : ℕ} {now : List ℕ} {next : ℕ} (h : i < length l) (w : Written i now next) where
-    -- there is room for what is found at i
-    pub room_here : at + length all_words ≤ length was → next + length (noted (test i (get_or l i d)) (issue i)) ≤ length now
-    room_here room =
-        omega (
-          arith,
-          w.count,
-          put_length w,
-          each_room (words_at k issue test) l i d h,
-          length-map (noted (test i (get_or l i d)) (issue i)) (issue_word k),
-          ap length (found_each k issue test 0 l),
-        )
+      pub found : Written k issue test l (i + 1) was (set now n (issue_word k (issue i))) (n + 1)
+      found = record { put = rw (each_next (words_at k issue test) l i d h, e) (one_more w.put (issue_word k (issue i)) room_here) }
 
-    pub after_turn : {now' : List ℕ} {next' : ℕ} → Put now next (words_at k issue test i (get_or l i d)) now' next' → Written (i + 1) now' next'
-    after_turn {now'} {next'} p = subst (λ (ws : List ℕ). Put was at ws now' next') (sym (each_next (words_at k issue test) l i d h)) (then w p)
-
-  pub at_last : (i : ℕ) {now : List ℕ} {next : ℕ} → Written i now next → length l ≤ i → Put was at all_words now next
-  at_last i {now} {next} w h = subst (λ (ws : List ℕ). Put was at ws now next) (each_all (words_at k issue test) l i h ∙ sym (found_each k issue test 0 l)) w
+  pub at_last : length l ≤ i → Put (map (issue_word k) (map issue (places test l))) was now n
+  at_last h =
+      subst (λ (ws : List ℕ). Put ws was now n) (each_all (words_at k issue test) l i h ∙ sym (found_each k issue test 0 l)) w.put

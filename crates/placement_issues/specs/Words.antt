@@ -1,12 +1,18 @@
--- The issue words of one building by their kind. Assumes nothing.
-use Rattle.std.specs.Prelude.{Bool, not, ◌&&◌, List, ◌++◌, map, ℕ, eqb}
+-- The issue words of one building by their kind, and where they stand. Assumes nothing.
+use Rattle.std.specs.Prelude.{◌≡◌, Bool, not, ◌&&◌, List, ◌++◌, map, ℕ, eqb, length}
 use Rattle.model.specs.declared.PixelRect.{PixelRect}
 use Rattle.model.specs.declared.WallBuilding.{WallBuilding}
 use Rattle.model.specs.Lists.{places}
 use Rattle.model.specs.Boxes.{meets, in_map, footprint_box, collision_box}
 use Rattle.model.specs.Placement.{OutOfMap, UnbuildableTerrain, OverlapsObstacle, OverlapsBuilding, issue_word}
+use Rattle.model.specs.Areas.{begun}
 use Rattle.footprints.specs.Cells.{bad_under, non_empty}
 use Rattle.issue_words.specs.Issues.{noted}
+
+-- The words stand first in the area now, and are so many. The rest is as it was.
+pub record Put (words was now : List ℕ) (n : ℕ) : Type 0 where
+  pub count : n ≡ length words
+  pub area : now ≡ begun words was
 
 -- the test of obstacle i, and of building i beside building k
 abbrev pub met_by : PixelRect → ℕ → PixelRect → Bool

@@ -1,15 +1,15 @@
 -- What an accepted check leaves can be printed, and is what the definitions say. Assumes nothing.
 use mathlib.Core.Path.{◌≡◌, refl, sym, ap, subst, ◌∙◌}
 use mathlib.Core.List.{List, [], ◌∷◌, ◌++◌, map}
-use mathlib.Core.Option.{none}
 use Prim.Native.Nat.{ℕ, suc, ◌≤◌}
 use native.Mathlib.Omega.{arith}
 use lib.ListN.{length, take, length-append, length-take, length-map}
 use lib.Seq.{take_at}
-use Rattle.model.specs.declared.Outcome.{Outcome}
+use Rattle.std.specs.Prelude.{None, Result, Ok}
+use Rattle.model.specs.declared.WallCheck.{WallCheck}
+use Rattle.model.specs.declared.WallError.{WallError}
 use Rattle.model.specs.declared.WallBuilding.{WallBuilding}
 use Rattle.model.specs.declared.WallQuery.{WallQuery}
-use Rattle.model.specs.declared.WallReply.{WallReply}
 use Rattle.model.specs.Ground.{Ground, built}
 use Rattle.model.specs.Placement.{placements_from, placements, issue_words}
 use Rattle.model.specs.Steps.{point_word}
@@ -31,20 +31,20 @@ unfolding placements_from
 one_each g bs k [] = refl
 one_each g bs k (c ∷ cs) = ap suc (one_each g bs (suc k) cs)
 
-module _ {g : Ground} {q : WallQuery} {was now : CheckAreas} {reply : WallReply} (a : Answers g q was now reply) (ok : reply.outcome ≡ Outcome.Accepted) (places : length q.plan.buildings ≡ 32) where
+module _ {g : Ground} {q : WallQuery} {was now : CheckAreas} {reply : Result WallCheck WallError} {check : WallCheck} (a : Answers g q was now reply) (ok : reply ≡ Ok check) (places : length q.plan.buildings ≡ 32) where
   abbrev bs : List WallBuilding
   bs = built q.plan
 
-  none_applies : none ≡ first (query_lines g q ++ room_lines (check_rooms g q was))
-  none_applies = sym (ap given ok) ∙ a.outcome
+  none_applies : None ≡ first (query_lines g q ++ room_lines (check_rooms g q was))
+  none_applies = sym (ap given ok) ∙ a.refuses
 
-  checked : Checked g q was now reply.check
+  checked : Checked g q was now check
   checked = rw ok at a.leaves
 
   few : q.plan.count ≤ 32
   few = (valid g q (none_both (query_lines g q) _ (sym none_applies)).0).plan.count
 
-  placed : take q.plan.count reply.check.placements ≡ placements g bs
+  placed : take q.plan.count check.placements ≡ placements g bs
   placed =
       let n : length (placements g bs) ≡ q.plan.count = omega (arith, few, one_each g bs 0 bs, length-take q.plan.count q.plan.buildings) in
       ap (take q.plan.count) checked.placed ∙ take_at (placements g bs) _ q.plan.count n
@@ -56,11 +56,11 @@ module _ {g : Ground} {q : WallQuery} {was now : CheckAreas} {reply : WallReply}
   route_left = ap (λ (x : CheckAreas). x.route) checked.areas
 
   -- as many points as the answer says
-  pointed : length (map point_word checked.centers) ≡ reply.check.passed.points
+  pointed : length (map point_word checked.centers) ≡ check.passed.points
   pointed = length-map checked.centers point_word ∙ sym checked.passes.points
 
   pub printable : (out : List ℕ) → length now.issues ≡ 2080 → length now.route ≡ 1600 → report_room ≤ length out
-      → Printable reply.check q.plan.count now.issues now.route out
+      → Printable check q.plan.count now.issues now.route out
   printable out i r h =
       let counted = ap issue_sum placed ∙ words_counted g bs 0 bs in
       let words = ap length words_left ∙ length-append (issue_words g bs) _ in
@@ -74,16 +74,16 @@ module _ {g : Ground} {q : WallQuery} {was now : CheckAreas} {reply : WallReply}
         room = h;
       }
 
-  as_defined : report_text (take q.plan.count reply.check.placements) now.issues reply.check.passed (take reply.check.passed.points now.route)
-      ≡ report_text (placements g bs) (issue_words g bs) reply.check.passed (map point_word checked.centers)
+  as_defined : report_text (take q.plan.count check.placements) now.issues check.passed (take check.passed.points now.route)
+      ≡ report_text (placements g bs) (issue_words g bs) check.passed (map point_word checked.centers)
   as_defined =
-      let points = ap (take reply.check.passed.points) route_left ∙ take_at (map point_word checked.centers) _ reply.check.passed.points pointed in
-      (λ i. report_text (placed i) (words_left i) reply.check.passed (points i))
-      ∙ report_counted (placements g bs) (issue_words g bs) _ reply.check.passed (map point_word checked.centers) (omega (arith, words_counted g bs 0 bs))
+      let points = ap (take check.passed.points) route_left ∙ take_at (map point_word checked.centers) _ check.passed.points pointed in
+      (λ i. report_text (placed i) (words_left i) check.passed (points i))
+      ∙ report_counted (placements g bs) (issue_words g bs) _ check.passed (map point_word checked.centers) (omega (arith, words_counted g bs 0 bs))
 
   pub reported : {out out' : List ℕ} {r : ℕ}
-      → Wrote out 0 (report_text (take q.plan.count reply.check.placements) now.issues reply.check.passed (take reply.check.passed.points now.route)) out' r
+      → Wrote out 0 (report_text (take q.plan.count check.placements) now.issues check.passed (take check.passed.points now.route)) out' r
       → Told (query_lines g q ++ room_lines (check_rooms g q was)) g q out out' r
   reported w =
-      let text = report_text (placements g bs) (issue_words g bs) reply.check.passed (map point_word checked.centers) in
-      record { text = text; prints = subst (PrintsAs g q text) none_applies (reply.check.passed, checked.centers, checked.passes, refl); wrote = said as_defined w }
+      let text = report_text (placements g bs) (issue_words g bs) check.passed (map point_word checked.centers) in
+      record { text = text; prints = subst (PrintsAs g q text) none_applies (check.passed, checked.centers, checked.passes, refl); wrote = said as_defined w }

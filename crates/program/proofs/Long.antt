@@ -2,7 +2,7 @@
 use mathlib.Core.Path.{◌≡◌, refl, sym, ap, subst, ◌∙◌}
 use mathlib.Core.Bool.{◌||◌}
 use mathlib.Core.List.{List, [], ◌++◌}
-use mathlib.Core.Option.{Option, none, some}
+use Rattle.std.specs.Prelude.{Option, None, Some}
 use Prim.Native.Nat.{ℕ, zero, suc, ◌+◌, ◌*◌, ◌/◌, ◌≤◌, ◌<◌}
 use native.Mathlib.Nat.{mul-le-mul}
 use native.Mathlib.Omega.{arith}
@@ -41,7 +41,7 @@ header_kept s more h =
     )
 
 -- a header that passes needs no more bytes than the longest: 64 by 64 cells, 32 obstacles and 63 buildings
-few_bytes : (s : List ℕ) → first (header_lines s) ≡ none → bytes_in s ≤ longest
+few_bytes : (s : List ℕ) → first (header_lines s) ≡ None → bytes_in s ≤ longest
 unfolding header_lines
 few_bytes s e =
     let limit = (none_line _ _ (none_line _ _ e).1).0 in
@@ -53,24 +53,24 @@ few_bytes s e =
     omega (arith, mul-le-mul w h, n, field_lt s 34 6)
 
 -- a longer input is refused by the header, or with 19
-long_refused : (s : List ℕ) → longest < length s → first (program_lines s) ≡ or_next (first (header_lines s)) (some (refuse 19 []))
+long_refused : (s : List ℕ) → longest < length s → first (program_lines s) ≡ or_next (first (header_lines s)) (Some (refuse 19 []))
 long_refused s h = first_append (header_lines s) _ ∙ by (first (header_lines s)) refl
   where
-    by : (o : Option Refusal) → first (header_lines s) ≡ o → or_next o (first (reading_lines s ++ check_lines (ground_in s) (query_in s))) ≡ or_next o (some (refuse 19 []))
-    by none e =
+    by : (o : Option Refusal) → first (header_lines s) ≡ o → or_next o (first (reading_lines s ++ check_lines (ground_in s) (query_in s))) ≡ or_next o (Some (refuse 19 []))
+    by None e =
         let tail = sym (too_long s (omega (arith, few_bytes s e))) in
         rw (first_append (reading_lines s) (check_lines (ground_in s) (query_in s)), first_append (packed_lines s) _, tail)
-    by (some r) e = refl
+    by (Some r) e = refl
 
 whole_prints : (s more out : List ℕ) → longest < length s → Prints s out → Prints (s ++ more) out
 whole_prints s more out h p =
     let longer : longest < length (s ++ more) = omega (arith, length-append s more) in
-    let same = long_refused (s ++ more) longer ∙ ap (λ (o : Option Refusal). or_next o (some (refuse 19 []))) (header_kept s more (omega arith)) in
+    let same = long_refused (s ++ more) longer ∙ ap (λ (o : Option Refusal). or_next o (Some (refuse 19 []))) (header_kept s more (omega arith)) in
     subst (PrintsAs (ground_in (s ++ more)) (query_in (s ++ more)) out) (sym same) (carried (first (header_lines s)) (subst (PrintsAs (ground_in s) (query_in s) out) (long_refused s h) p))
   where
-    carried : (o : Option Refusal) → PrintsAs (ground_in s) (query_in s) out (or_next o (some (refuse 19 []))) → PrintsAs (ground_in (s ++ more)) (query_in (s ++ more)) out (or_next o (some (refuse 19 [])))
-    carried none q = q
-    carried (some r) q = q
+    carried : (o : Option Refusal) → PrintsAs (ground_in s) (query_in s) out (or_next o (Some (refuse 19 []))) → PrintsAs (ground_in (s ++ more)) (query_in (s ++ more)) out (or_next o (Some (refuse 19 [])))
+    carried None q = q
+    carried (Some r) q = q
 
 -- an input of which all was read, or more than the longest that is not refused
 pub read_prints : (b s out : List ℕ) (n : ℕ) → n ≤ length b → longest < length b → take (length b) s ≡ take n b → Prints (take n b) out → Prints s out

@@ -2,7 +2,7 @@
 #![tactic(auto)]
 
 ghost use Rattle.std.specs.Prelude.{◌≡◌, ◌++◌, ◌≤◌, ◌<◌, length, IfSome, OnOk};
-ghost use Rattle.model.specs.Ground.{ground};
+ghost use Rattle.model.specs.Ground.{seen};
 ghost use Rattle.model.specs.Refusal.{refusal, given, first};
 ghost use Rattle.model.specs.Packed.{ground_in, query_in};
 ghost use Rattle.model.specs.Report.{header_lines, reading_lines, check_lines, refused_text};
@@ -10,7 +10,7 @@ ghost use Rattle.text.specs.Writing.{Wrote};
 ghost use Rattle.report.specs.Printing.{report_room, refused_room};
 ghost use Rattle.program.specs.Promise.{Told, Printed, Ran, longest, Reported};
 
-use model::{Outcome, WallError, WallQuery};
+use model::{Ground, WallError, WallQuery};
 use std::io;
 use std::io::{Read, Write};
 
@@ -23,30 +23,23 @@ fn print_refusal(out: &mut [u8], e: WallError) -> usize
 }
 
 // 18 where the header is not whole, and 20 by the header alone.
-fn check_header(input: &[u8]) -> Outcome
+fn check_header(input: &[u8]) -> Result<(), WallError>
     ensures { given result ≡ first (header_lines input.now) }
 {
     if input.len() < 5 {
-        return Outcome::Refused(WallError::PackedShort);
+        return Err(WallError::PackedShort);
     }
     let h = packed::read_header(input);
     if (h.width > 64) | (h.height > 64) | (h.obstacles > 32) {
-        return Outcome::Refused(WallError::ProgramLimit);
+        return Err(WallError::ProgramLimit);
     }
-    Outcome::Accepted
+    Ok(())
 }
 
 // Checks the query in areas of the program's numbers, and prints the report or the refusal.
-fn print_check(
-    out: &mut [u8],
-    width: u32,
-    height: u32,
-    cells: &[u8],
-    words: &[i32],
-    query: WallQuery,
-) -> usize
+fn print_check(out: &mut [u8], ground: Ground<'_>, query: WallQuery) -> usize
     requires { report_room ≤ length out.old }
-    ensures { Told (check_lines (ground width height cells.now words.now) query) (ground width height cells.now words.now) query out.old out.new result }
+    ensures { Told (check_lines (seen ground.entry) query) (seen ground.entry) query out.old out.new result }
 {
     let mut issues = [0u32; 2080];
     let mut base = [0u32; 1681];
@@ -56,10 +49,7 @@ fn print_check(
     let mut queue = [0u32; 1600];
     let mut route = [0u32; 1600];
     let reply = walls::check_wall(
-        width,
-        height,
-        cells,
-        words,
+        ground,
         query,
         &mut issues,
         &mut base,
@@ -69,13 +59,10 @@ fn print_check(
         &mut queue,
         &mut route,
     );
-    let outcome = reply.outcome;
-    if let Outcome::Refused(e) = outcome {
-        return print_refusal(out, e);
+    match reply {
+        Ok(check) => report::report(out, check, query.plan.count, &issues, &route),
+        Err(e) => print_refusal(out, e),
     }
-    let check = reply.check;
-    let plan = query.plan;
-    report::report(out, check, plan.count, &issues, &route)
 }
 
 // Reads the query into areas of the program's numbers, and checks it.
@@ -85,23 +72,19 @@ fn print_packed(out: &mut [u8], input: &[u8]) -> usize
 {
     let mut cells = [0u8; 4096];
     let mut words = [0i32; 128];
-    let reply = packed::read_packed(input, &mut cells, &mut words);
-    let outcome = reply.outcome;
-    if let Outcome::Refused(e) = outcome {
-        return print_refusal(out, e);
-    }
-    let packed = reply.packed;
+    let packed = match packed::read_packed(input, &mut cells, &mut words) {
+        Ok(packed) => packed,
+        Err(e) => return print_refusal(out, e),
+    };
     let n = packed.width as usize * packed.height as usize;
     let k = 4 * packed.obstacles;
-    let query = packed.query;
-    print_check(
-        out,
-        packed.width,
-        packed.height,
-        &cells[..n],
-        &words[..k],
-        query,
-    )
+    let ground = Ground {
+        width: packed.width,
+        height: packed.height,
+        cells: &cells[..n],
+        words: &words[..k],
+    };
+    print_check(out, ground, packed.query)
 }
 
 // What the program prints for these bytes, at the start of `out`.
@@ -109,8 +92,7 @@ pub fn print_input(out: &mut [u8], input: &[u8]) -> usize
     requires { report_room ≤ length out.old }
     ensures { Printed input.now out.old out.new result }
 {
-    let told = check_header(input);
-    if let Outcome::Refused(e) = told {
+    if let Err(e) = check_header(input) {
         return print_refusal(out, e);
     }
     print_packed(out, input)

@@ -1,64 +1,57 @@
-// When a query is refused: 1 to 16, in the table's order. Each stage answers an Outcome, which the next one opens.
+// When a query is refused: 1 to 16, in the table's order. Each stage's answer is opened before the next one runs.
 #![tactic(auto)]
 
 ghost use Rattle.std.specs.Prelude.{◌≡◌};
-ghost use Rattle.model.specs.Ground.{ground};
+ghost use Rattle.model.specs.Ground.{seen};
 ghost use Rattle.model.specs.Refusal.{given, first, query_lines};
 ghost use Rattle.query.specs.Stages.{ground_lines, way_lines};
 
-use model::{Outcome, WallQuery};
+use model::{Ground, WallError, WallQuery};
 
 // 1 to 7.
-fn validate_ground(width: u32, height: u32, cells: &[u8], words: &[i32]) -> Outcome
-    ensures { given result ≡ first (ground_lines (ground width height cells.now words.now)) }
+fn validate_ground(ground: Ground<'_>) -> Result<(), WallError>
+    ensures { given result ≡ first (ground_lines (seen ground.entry)) }
 {
-    let told = query_ground::validate_size(width, height, cells);
-    let Outcome::Accepted = told else {
+    let told = query_ground::validate_size(ground.width, ground.height, ground.cells);
+    let Ok(()) = told else {
         return told;
     };
-    let told = query_ground::validate_cells(cells);
-    let Outcome::Accepted = told else {
+    let told = query_ground::validate_cells(ground.cells);
+    let Ok(()) = told else {
         return told;
     };
-    query_ground::validate_obstacles(words)
+    query_ground::validate_obstacles(ground.words)
 }
 
 // 8 to 13.
-fn validate_way(width: u32, height: u32, query: WallQuery) -> Outcome
+fn validate_way(width: u32, height: u32, query: WallQuery) -> Result<(), WallError>
     ensures { given result ≡ first (way_lines width height query) }
 {
     let told = query_way::validate_mover(query.mover);
-    let Outcome::Accepted = told else {
+    let Ok(()) = told else {
         return told;
     };
-    let plan = query.plan;
-    let told = query_way::validate_count(plan.count);
-    let Outcome::Accepted = told else {
+    let told = query_way::validate_count(query.plan.count);
+    let Ok(()) = told else {
         return told;
     };
     let told = query_way::validate_window(width, height, query.window);
-    let Outcome::Accepted = told else {
+    let Ok(()) = told else {
         return told;
     };
     query_way::validate_ends(query.window, query.start, query.end)
 }
 
 // 1 to 16, of any cells, any words and any query.
-pub fn validate_query(
-    width: u32,
-    height: u32,
-    cells: &[u8],
-    words: &[i32],
-    query: WallQuery,
-) -> Outcome
-    ensures { given result ≡ first (query_lines (ground width height cells.now words.now) query) }
+pub fn validate_query(ground: Ground<'_>, query: WallQuery) -> Result<(), WallError>
+    ensures { given result ≡ first (query_lines (seen ground.entry) query) }
 {
-    let told = validate_ground(width, height, cells, words);
-    let Outcome::Accepted = told else {
+    let told = validate_ground(ground);
+    let Ok(()) = told else {
         return told;
     };
-    let told = validate_way(width, height, query);
-    let Outcome::Accepted = told else {
+    let told = validate_way(ground.width, ground.height, query);
+    let Ok(()) = told else {
         return told;
     };
     query_buildings::validate_buildings(query.plan)

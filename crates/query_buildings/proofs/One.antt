@@ -2,18 +2,14 @@
 use mathlib.Core.Path.{◌≡◌, refl, sym, ◌∙◌}
 use mathlib.Core.Bool.{Bool, true, false, cond, ◌||◌}
 use mathlib.Core.List.{List, [], ◌∷◌, ◌++◌}
-use mathlib.Core.Option.{none}
+use Rattle.std.specs.Prelude.{Option, Some, None, Result, Ok, Err}
 use Prim.Native.Nat.{ℕ, ◌+◌, ◌<◌, ◌≤◌}
 use native.Mathlib.Numerals.{add-one}
 use lib.ListN.{length, get_or, take, drop}
 use Rattle.numbers.proofs.Front.{front_next, front_done}
 use Rattle.model.specs.declared.WallBuilding.{WallBuilding}
 use Rattle.model.specs.declared.BuildingGeometry.{BuildingGeometry}
-use Rattle.model.specs.declared.Geometry.{Geometry}
-use Rattle.model.specs.declared.Geometry.TheVariants.{Fits, Overflow}
 use Rattle.model.specs.declared.WallError.{WallError}
-use Rattle.model.specs.declared.Outcome.{Outcome}
-use Rattle.model.specs.declared.Outcome.TheVariants.{Accepted, Refused}
 use Rattle.model.specs.Boxes.{footprint_box, collision_box}
 use Rattle.model.specs.Refusal.{given, first, outside, geometry_of, building_lines}
 use Rattle.model.proofs.Lines.{stage_passed, stage_refused}
@@ -24,30 +20,30 @@ module _ (bs : List WallBuilding) (n i : ℕ) (d : WallBuilding) (m : i < n) (ha
   unfolding building_lines
   opened = rw (front_next bs n i d m has, ← add-one i)
 
-  pub building_passed : {o : Outcome} → o ≡ Accepted → given o ≡ first (building_lines i (get_or bs i d ∷ []))
+  pub building_passed : {A : Type 0} {o : Result A WallError} {x : A} → o ≡ Ok x → given o ≡ first (building_lines i (get_or bs i d ∷ []))
       → first (building_lines i (drop i (take n bs))) ≡ first (building_lines (i + 1) (drop (i + 1) (take n bs)))
   building_passed e h = opened ∙ stage_passed (building_lines i (get_or bs i d ∷ [])) _ e h
 
-  pub building_refused : {o : Outcome} {e : WallError} → o ≡ Refused e → given o ≡ first (building_lines i (get_or bs i d ∷ []))
+  pub building_refused : {A : Type 0} {o : Result A WallError} {e : WallError} → o ≡ Err e → given o ≡ first (building_lines i (get_or bs i d ∷ []))
       → first (building_lines i (drop i (take n bs))) ≡ given o
   building_refused e h = opened ∙ stage_refused (building_lines i (get_or bs i d ∷ [])) (building_lines (i + 1) (drop (i + 1) (take n bs))) e h
 
-pub buildings_done : (bs : List WallBuilding) (n i : ℕ) → n ≤ i → first (building_lines i (drop i (take n bs))) ≡ none
+pub buildings_done : (bs : List WallBuilding) (n i : ℕ) → n ≤ i → first (building_lines i (drop i (take n bs))) ≡ None
 unfolding first building_lines
 buildings_done bs n i h = rw (front_done bs n i h)
 
 -- ---- what a building's geometry shows of line 16
-module _ (b : WallBuilding) {r : Geometry} (e : r ≡ geometry_of b) where
-  pub overflows : r ≡ Overflow → outside (footprint_box b) || outside (collision_box b) ≡ true
+module _ (b : WallBuilding) {r : Option BuildingGeometry} (e : r ≡ geometry_of b) where
+  pub overflows : r ≡ None → outside (footprint_box b) || outside (collision_box b) ≡ true
   overflows o = by (outside (footprint_box b) || outside (collision_box b)) (sym e ∙ o)
     where
-      by : (t : Bool) → cond t Overflow (Fits (record { footprint = footprint_box b; collision = collision_box b })) ≡ Overflow → t ≡ true
+      by : (t : Bool) → cond {A = Option BuildingGeometry} t None (Some (record { footprint = footprint_box b; collision = collision_box b })) ≡ None → t ≡ true
       by true h = refl
       by false h = cc
 
-  pub fits : {x : BuildingGeometry} → r ≡ Fits x → outside (footprint_box b) || outside (collision_box b) ≡ false
+  pub fits : {x : BuildingGeometry} → r ≡ Some x → outside (footprint_box b) || outside (collision_box b) ≡ false
   fits {x} f = by (outside (footprint_box b) || outside (collision_box b)) (sym e ∙ f)
     where
-      by : (t : Bool) → cond t Overflow (Fits (record { footprint = footprint_box b; collision = collision_box b })) ≡ Fits x → t ≡ false
+      by : (t : Bool) → cond {A = Option BuildingGeometry} t None (Some (record { footprint = footprint_box b; collision = collision_box b })) ≡ Some x → t ≡ false
       by true h = cc
       by false h = refl

@@ -5,12 +5,12 @@ ghost use Rattle.std.specs.Prelude.{◌≡◌, [], ◌∷◌, ◌≤◌};
 ghost use Rattle.model.specs.Ground.{built};
 ghost use Rattle.model.specs.Refusal.{given, first, building_lines};
 
-use model::{Geometry, Outcome, Plan, WallBuilding, WallError};
+use model::{Plan, WallBuilding, WallError};
 
 const MAX_FOOTPRINT_TILES: u32 = 256;
 
 // 14 to 16, of the building at an index.
-fn validate_building(index: usize, b: WallBuilding) -> Outcome
+fn validate_building(index: usize, b: WallBuilding) -> Result<(), WallError>
     ensures { given result ≡ first (building_lines index (b ∷ [])) }
 {
     let width_tiles = b.footprint.width_tiles;
@@ -18,36 +18,31 @@ fn validate_building(index: usize, b: WallBuilding) -> Outcome
     if ((width_tiles == 0) | (width_tiles > MAX_FOOTPRINT_TILES))
         | ((height_tiles == 0) | (height_tiles > MAX_FOOTPRINT_TILES))
     {
-        return Outcome::Refused(WallError::InvalidFootprint {
+        return Err(WallError::InvalidFootprint {
             index,
             width_tiles,
             height_tiles,
         });
     }
     if query_way::is_wide(b.collision) {
-        return Outcome::Refused(WallError::CollisionExtentTooLarge { index });
+        return Err(WallError::CollisionExtentTooLarge { index });
     }
-    let geometry = boxes::building_geometry(b);
-    let Geometry::Fits(_) = geometry else {
-        return Outcome::Refused(WallError::CoordinateOverflow { index });
+    let Some(_) = boxes::building_geometry(b) else {
+        return Err(WallError::CoordinateOverflow { index });
     };
-    Outcome::Accepted
+    Ok(())
 }
 
 // 14 to 16, by index.
-pub fn validate_buildings(plan: Plan) -> Outcome
+pub fn validate_buildings(plan: Plan) -> Result<(), WallError>
     requires { plan.count ≤ 32 }
     ensures { given result ≡ first (building_lines 0 (built plan)) }
 {
-    let n = plan.count;
-    let mut i = 0;
-    while i < n {
-        let b = plan.buildings[i];
-        let told = validate_building(i, b);
-        let Outcome::Accepted = told else {
+    for index in 0..plan.count {
+        let told = validate_building(index, plan.buildings[index]);
+        let Ok(()) = told else {
             return told;
         };
-        i += 1;
     }
-    Outcome::Accepted
+    Ok(())
 }

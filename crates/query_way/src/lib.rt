@@ -5,7 +5,7 @@ ghost use Rattle.std.specs.Prelude.{◌≡◌, pos};
 ghost use Rattle.model.specs.Boxes.{holds};
 ghost use Rattle.model.specs.Refusal.{given, first, wide, mover_lines, count_lines, window_lines, end_lines};
 
-use model::{CollisionBounds, Outcome, PixelPosition, PixelRect, WallEndpoint, WallError};
+use model::{CollisionBounds, PixelPosition, PixelRect, WallEndpoint, WallError};
 
 const MAX_COLLISION_EXTENT: u32 = 8192;
 
@@ -26,44 +26,44 @@ pub fn is_wide(e: CollisionBounds) -> bool
 }
 
 // 8.
-pub fn validate_mover(mover: CollisionBounds) -> Outcome
+pub fn validate_mover(mover: CollisionBounds) -> Result<(), WallError>
     ensures { given result ≡ first (mover_lines mover) }
 {
     if is_wide(mover) {
-        return Outcome::Refused(WallError::MoverExtentTooLarge);
+        return Err(WallError::MoverExtentTooLarge);
     }
-    Outcome::Accepted
+    Ok(())
 }
 
 // 9.
-pub fn validate_count(actual: usize) -> Outcome
+pub fn validate_count(actual: usize) -> Result<(), WallError>
     ensures { given result ≡ first (count_lines actual) }
 {
     if actual > MAX_BUILDINGS {
-        return Outcome::Refused(WallError::TooManyBuildings { actual });
+        return Err(WallError::TooManyBuildings { actual });
     }
-    Outcome::Accepted
+    Ok(())
 }
 
 // 10 to 12.
-pub fn validate_window(map_width: u32, map_height: u32, window: PixelRect) -> Outcome
+pub fn validate_window(map_width: u32, map_height: u32, window: PixelRect) -> Result<(), WallError>
     ensures { given result ≡ first (window_lines map_width map_height window) }
 {
     let hollow = query_ground::is_hollow(window);
     let inside = boxes::rect_in_map(window, map_width, map_height);
     if hollow | !inside {
-        return Outcome::Refused(WallError::InvalidWindow);
+        return Err(WallError::InvalidWindow);
     }
     let width = boxes::width(window);
     let height = boxes::height(window);
     if (width > MAX_WINDOW_AXIS) | (height > MAX_WINDOW_AXIS) {
-        return Outcome::Refused(WallError::WindowTooLarge { width, height });
+        return Err(WallError::WindowTooLarge { width, height });
     }
     let centers = width * height;
     if centers > MAX_WINDOW_CENTERS {
-        return Outcome::Refused(WallError::TooManyCenters { centers });
+        return Err(WallError::TooManyCenters { centers });
     }
-    Outcome::Accepted
+    Ok(())
 }
 
 // Whether the window holds the center.
@@ -77,22 +77,26 @@ fn window_holds(window: PixelRect, p: PixelPosition) -> bool
 }
 
 // 13, start before end.
-pub fn validate_ends(window: PixelRect, start: PixelPosition, end: PixelPosition) -> Outcome
+pub fn validate_ends(
+    window: PixelRect,
+    start: PixelPosition,
+    end: PixelPosition,
+) -> Result<(), WallError>
     ensures { given result ≡ first (end_lines window start end) }
 {
     if !window_holds(window, start) {
-        return Outcome::Refused(WallError::EndpointOutsideWindow {
+        return Err(WallError::EndpointOutsideWindow {
             endpoint: WallEndpoint::Start,
             x: start.x,
             y: start.y,
         });
     }
     if !window_holds(window, end) {
-        return Outcome::Refused(WallError::EndpointOutsideWindow {
+        return Err(WallError::EndpointOutsideWindow {
             endpoint: WallEndpoint::End,
             x: end.x,
             y: end.y,
         });
     }
-    Outcome::Accepted
+    Ok(())
 }

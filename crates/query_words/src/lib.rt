@@ -14,11 +14,7 @@ use model::{
 fn word_at(words: &[u64], k: usize) -> u32
     ensures { result ≡ word_at words.now k }
 {
-    if k < words.len() {
-        (words[k] % 4294967296) as u32
-    } else {
-        0
-    }
+    (words.get(k).copied().unwrap_or(0) % 4294967296) as u32
 }
 
 // Word k and the next. Here and below k is a place in a query, so that what is added to it still is one.
@@ -65,14 +61,13 @@ fn building_at(words: &[u64], k: usize) -> WallBuilding
 {
     let at = point_at(words, k);
     let size = point_at(words, k + 2);
-    let collision = extents_at(words, k + 4);
     WallBuilding {
         tile: TilePosition { x: at.x, y: at.y },
         footprint: DepotFootprint {
             width_tiles: size.x,
             height_tiles: size.y,
         },
-        collision,
+        collision: extents_at(words, k + 4),
     }
 }
 
@@ -80,14 +75,7 @@ fn building_at(words: &[u64], k: usize) -> WallBuilding
 fn plan_at(words: &[u64], count: usize) -> Plan
     ensures { result ≡ record { buildings = table (λ i. building_at words.now (12 + 8 * i)) 32; count = count } }
 {
-    let first = building_at(words, 12);
-    let mut buildings = [first; 32];
-    let mut i = 0;
-    while i < 32 {
-        let building = building_at(words, 12 + 8 * i);
-        buildings[i] = building;
-        i += 1;
-    }
+    let buildings = std::array::from_fn(|i| building_at(words, 12 + 8 * i));
     Plan { buildings, count }
 }
 
@@ -95,16 +83,11 @@ fn plan_at(words: &[u64], count: usize) -> Plan
 pub fn query_of(words: &[u64], count: usize) -> WallQuery
     ensures { result ≡ query_of words.now count }
 {
-    let window = rect_at(words, 0);
-    let start = point_at(words, 4);
-    let end = point_at(words, 6);
-    let mover = extents_at(words, 8);
-    let plan = plan_at(words, count);
     WallQuery {
-        window,
-        start,
-        end,
-        mover,
-        plan,
+        window: rect_at(words, 0),
+        start: point_at(words, 4),
+        end: point_at(words, 6),
+        mover: extents_at(words, 8),
+        plan: plan_at(words, count),
     }
 }

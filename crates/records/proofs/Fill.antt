@@ -5,7 +5,7 @@
 --     refuses       what the contract says where there is too little room
 use mathlib.Core.Path.{◌≡◌, refl, sym, ap, subst, ◌∙◌}
 use mathlib.Core.List.{List, [], ◌∷◌, ◌++◌}
-use Prim.Native.Nat.{ℕ, zero, suc, ◌+◌, ◌-◌, ◌*◌, ◌<◌, ◌≤◌}
+use Prim.Native.Nat.{ℕ, zero, suc, ◌+◌, ◌*◌, ◌<◌, ◌≤◌}
 use native.Mathlib.Nat.{not-suc-le-zero, le_of_suc-le-suc}
 use native.Mathlib.Numerals.{unary_clauses}
 use native.Mathlib.Omega.{arith}
@@ -13,8 +13,7 @@ use borrow.Author.Tests.{lt-ltb, le-ltb}
 use lib.IntN.{ℤ}
 use lib.ListN.{length, set, take, drop, get_or, length-set}
 use Rattle.model.specs.declared.PixelRect.{PixelRect}
-use Rattle.model.specs.declared.Outcome.{Outcome}
-use Rattle.model.specs.declared.Outcome.TheVariants.{Accepted, Refused}
+use Rattle.std.specs.Prelude.{Ok, Err}
 use Rattle.model.specs.declared.WallError.TheVariants.{RoomTooSmall}
 use Rattle.model.specs.Refusal.{first}
 use Rattle.model.specs.Areas.{room_lines}
@@ -90,10 +89,10 @@ module _ (rs : List PixelRect) (d : List ℤ) (room : 4 * length rs ≤ length d
     s ∙ ap (λ (l : List ℤ). stored l (4 * i) (get_or rs i z)) h.2 ∙ fill_more i rs d z e (omega arith),
   )
 
-  pub ends : (ws : List ℤ) (i : ℕ) → Inv rs d ws i → length rs ≤ i → Copies rs d ws Accepted
+  pub ends : (ws : List ℤ) (i : ℕ) → Inv rs d ws i → length rs ≤ i → Copies rs d ws (Ok tt)
   unfolding first room_lines
-  ends ws i h e = record { outcome = simp (le-ltb (length d) (4 * length rs) room); leaves = h.2 ∙ fill_all i rs d (omega (arith, h.0)) }
+  ends ws i h e = record { refuses = simp (le-ltb (length d) (4 * length rs) room); leaves = h.2 ∙ fill_all i rs d (omega (arith, h.0)) }
 
-pub refuses : (rs : List PixelRect) (d : List ℤ) (r : Outcome) → length d < 4 * length rs → r ≡ Refused (RoomTooSmall 1) → Copies rs d d r
+pub refuses : (rs : List PixelRect) (d : List ℤ) → length d < 4 * length rs → Copies rs d d (Err (RoomTooSmall 1))
 unfolding first room_lines
-refuses rs d r e is = rw is (record { outcome = simp (lt-ltb (length d) (4 * length rs) e); leaves = refl })
+refuses rs d e = record { refuses = simp (lt-ltb (length d) (4 * length rs) e); leaves = refl }

@@ -2,10 +2,10 @@
 #![tactic(auto)]
 
 ghost use Rattle.std.specs.Prelude.{◌≡◌};
-ghost use Rattle.model.specs.Refusal.{end_number, refusal};
+ghost use Rattle.model.specs.Refusal.{refusal};
 ghost use Rattle.model.specs.Words.{value_words};
 
-use model::{WallEndpoint, WallError};
+use model::WallError;
 
 // The refusal's number in document 01's table.
 pub fn number(e: WallError) -> usize
@@ -35,15 +35,6 @@ pub fn number(e: WallError) -> usize
     }
 }
 
-fn end_word(end: WallEndpoint) -> u64
-    ensures { result ≡ end_number end }
-{
-    match end {
-        WallEndpoint::Start => 0,
-        WallEndpoint::End => 1,
-    }
-}
-
 // The refusal's values in the table's order, with zeros behind them.
 pub fn values(e: WallError) -> [u64; 4]
     ensures { result ≡ value_words (refusal e) }
@@ -67,7 +58,7 @@ pub fn values(e: WallError) -> [u64; 4]
         WallError::WindowTooLarge { width, height } => [width as u64, height as u64, 0, 0],
         WallError::TooManyCenters { centers } => [centers as u64, 0, 0, 0],
         WallError::EndpointOutsideWindow { endpoint, x, y } => {
-            [end_word(endpoint), x as u64, y as u64, 0]
+            [endpoint as u64, x as u64, y as u64, 0]
         }
         WallError::InvalidFootprint {
             index,

@@ -1,4 +1,4 @@
--- How long the pieces of a report can be, every number counted at 20 digits, and that `report_room` holds the longest. Assumes nothing.
+-- How long the pieces of a report can be, every number counted at 20 digits, and that the room for the longest holds them. Assumes nothing.
 use mathlib.Core.Bool.{Bool, true, false, cond}
 use mathlib.Core.List.{List, [], ◌∷◌, ◌++◌, flat_map}
 use Prim.Native.Nat.{ℕ, zero, suc, ◌+◌, ◌*◌, ◌/◌, ◌%◌, ◌^◌, ◌≤◌}
@@ -11,14 +11,13 @@ use lib.ListN.{length, take, drop, get_or, length-append, length-take}
 use Rattle.numbers.proofs.Tests.{all_at}
 use Rattle.model.specs.declared.Passed.{Passed}
 use Rattle.model.specs.declared.PixelRect.{PixelRect}
+use Rattle.model.specs.declared.WallCheck.{WallCheck}
 use Rattle.model.specs.declared.WallPassage.{WallPassage}
 use Rattle.model.specs.declared.WallPassage.TheVariants.{StartBlocked, EndBlocked, Open, AlreadyDisconnected, BlockedWithinWindow}
 use Rattle.model.specs.declared.WallPlacement.{WallPlacement}
-use Rattle.model.specs.Report.{bytes, digits, decimal, spaced, box_text, placement_line, kind_names, issue_line, placement_lines, point_line, report_text, refused_text}
-use Rattle.report_placements.proofs.Lines.{placement_length}
+use Rattle.model.specs.Report.{bytes, digits, decimal, spaced, box_text, placement_line, kind_names, issue_line, placement_lines, point_line, refused_text}
 use Rattle.report_passage.specs.Passage.{verdict_text, passage_text}
-use Rattle.report.specs.Printing.{issue_sum, report_room, refused_room}
-use Rattle.report.proofs.Lines.{report_length}
+use Rattle.report.specs.Printing.{issue_sum, refused_room, Printable}
 
 digits_few : (k n : ℕ) → length (digits k n) ≤ k
 unfolding digits
@@ -40,16 +39,9 @@ box_short : (r : PixelRect) → length (box_text r) ≤ 88
 box_short r = simp length-append (omega (arith, spaced_short r.left, spaced_short r.top, spaced_short r.right, spaced_short r.bottom))
 
 placement_short : (k : ℕ) (p : WallPlacement) → length (placement_line k p) ≤ 255
+unfolding placement_line
 placement_short k p =
-    omega (
-      arith,
-      placement_length k p,
-      decimal_short k,
-      box_short p.footprint,
-      box_short p.collision,
-      length-append (decimal p.issues) (bytes "\n"),
-      decimal_short p.issues,
-    )
+    omega (arith, length-append {A = ℕ}, decimal_short k, box_short p.footprint, box_short p.collision, decimal_short p.issues)
 
 kind_short : (k : ℕ) → length (bytes (get_or kind_names k "")) ≤ 18
 kind_short k = leb→le _ 18 (all_at (λ (s : String). leb (length (bytes s)) 18) "" tt kind_names k tt)
@@ -96,16 +88,19 @@ placements_short k (p ∷ ps) words =
       placements_short (suc k) ps (drop p.issues words),
     ))
 
--- the longest report of the program fits its room
-pub report_short : (ps : List WallPlacement) (issues : List ℕ) (p : Passed) (points : List ℕ) → length ps ≤ 32 → issue_sum ps ≤ 2080 → length points ≤ 1600
-    → length (report_text ps issues p points) ≤ report_room
-report_short ps issues p points buildings words many =
+-- the pieces of the longest report of the program, one behind the other, fit its room
+pub pieces_fit : {check : WallCheck} {count : ℕ} {issues route out : List ℕ} → Printable check count issues route out
+    → length (bytes "check ok\n") + (length (placement_lines 0 (take count check.placements) issues) + (length (passage_text check.passed)
+    + length (flat_map point_line (take check.passed.points route)))) ≤ length out
+pieces_fit {check} {count} {issues} {route} {out} p =
     omega (
       arith,
-      report_length ps issues p points,
-      placements_short 0 ps issues,
-      passage_short p,
-      lines_short point_line 42 point_short points,
+      p,
+      placements_short 0 (take count check.placements) issues,
+      length-take count check.placements,
+      passage_short check.passed,
+      lines_short point_line 42 point_short (take check.passed.points route),
+      length-take check.passed.points route,
     )
 
 -- a refusal fits its room

@@ -7,28 +7,22 @@ ghost use Rattle.text.specs.Writing.{Fits, Wrote};
 ghost use Rattle.report.specs.Printing.{issue_sum, refused_room, Printable};
 
 use model::{WallCheck, WallPlacement};
+use report_passage::PointWord;
+use report_placements::IssueWord;
 
 // Each building's line, and behind it the lines of its issues: the words are those of one building after the other.
-fn put_placements(
-    out: &mut [u8],
-    at: usize,
-    placements: [WallPlacement; 32],
-    count: usize,
-    words: &[u32],
-) -> usize
-    requires { (count ≤ 32) × (issue_sum (take count placements) ≤ length words.now) × Fits out.old at (placement_lines 0 (take count placements) words.now) }
-    ensures { Wrote out.old at (placement_lines 0 (take count placements) words.now) out.new result }
+fn put_placements(out: &mut [u8], at: usize, placements: &[WallPlacement], words: &[u32]) -> usize
+    requires issues_there { issue_sum placements.now ≤ length words.now }
+    requires room { Fits out.old at (placement_lines 0 placements.now words.now) }
+    ensures { Wrote out.old at (placement_lines 0 placements.now words.now) out.new result }
 {
     let mut end = at;
-    let mut from = 0;
-    let mut i = 0;
-    while i < count {
-        let p = placements[i];
-        let to = from + p.issues;
-        let next = report_placements::put_placement(out, end, i, p);
-        end = report_placements::put_issues(out, next, &words[from..to]);
-        from = to;
-        i += 1;
+    let mut rest = words;
+    for (index, placement) in placements.iter().enumerate() {
+        let (own, others) = rest.split_at(placement.issues);
+        let next = report_placements::put_placement(out, end, index, *placement);
+        end = text::put_lines::<IssueWord>(out, next, own);
+        rest = others;
     }
     end
 }
@@ -44,16 +38,14 @@ pub fn report(
     requires { Printable check count issues.now route.now out.old }
     ensures { Wrote out.old 0 (report_text (take count check.placements) issues.now check.passed (take check.passed.points route.now)) out.new result }
 {
-    let placements = check.placements;
-    let passed = check.passed;
-    let points = passed.points;
     let first = text::put(out, 0, b"check ok\n");
-    let passage = put_placements(out, first, placements, count, issues);
-    let end = report_passage::put_passage(out, passage, passed);
-    report_passage::put_points(out, end, &route[..points])
+    let passage = put_placements(out, first, &check.placements[..count], issues);
+    let end = report_passage::put_passage(out, passage, check.passed);
+    text::put_lines::<PointWord>(out, end, &route[..check.passed.points])
 }
 
 // What the program prints for a refused query, at the start of the buffer.
+#[tactic(auto, using(crate::proofs::Sizes::refused_short), unfolding(model::specs::Report::refused_text))]
 pub fn refused(out: &mut [u8], number: usize) -> usize
     requires { refused_room ≤ length out.old }
     ensures { Wrote out.old 0 (refused_text number) out.new result }

@@ -1,11 +1,9 @@
--- The lines of a placement and of an issue, in larger pieces than the definitions. Assumes nothing.
-use mathlib.Core.Path.{◌≡◌, sym, ap, ◌∙◌}
+-- The line of a placement, in larger pieces than the definition. Assumes nothing.
+use mathlib.Core.Path.{◌≡◌}
 use mathlib.Core.List.{List, ◌++◌, append_assoc}
-use Prim.Native.Nat.{ℕ, ◌+◌, ◌/◌, ◌%◌, ◌^◌}
-use lib.ListN.{length, get_or}
+use Prim.Native.Nat.{ℕ}
 use Rattle.model.specs.declared.WallPlacement.{WallPlacement}
-use Rattle.model.specs.Report.{bytes, decimal, box_text, placement_line, kind_names, issue_line}
-use Rattle.text.proofs.Chain.{four_lengths}
+use Rattle.model.specs.Report.{bytes, decimal, box_text, placement_line}
 
 six_and_one : (a b c d e f g : List ℕ) → (a ++ b) ++ ((c ++ d) ++ ((e ++ f) ++ g)) ≡ a ++ (b ++ (c ++ (d ++ (e ++ (f ++ g)))))
 six_and_one a b c d e f g = simp append_assoc
@@ -17,16 +15,3 @@ unfolding placement_line
 placement_line_in_parts k p =
     six_and_one (bytes "placement ") (decimal k) (bytes " footprint") (box_text p.footprint) (bytes " collision") (box_text p.collision)
     (bytes " issues " ++ (decimal p.issues ++ bytes "\n"))
-
-pub placement_length : (k : ℕ) (p : WallPlacement)
-    → length (placement_line k p) ≡ length (bytes "placement " ++ decimal k) + (length (bytes " footprint" ++ box_text p.footprint)
-    + (length (bytes " collision" ++ box_text p.collision) + length (bytes " issues " ++ (decimal p.issues ++ bytes "\n"))))
-placement_length k p =
-    ap length (sym (placement_line_in_parts k p))
-    ∙ four_lengths (bytes "placement " ++ decimal k) (bytes " footprint" ++ box_text p.footprint) (bytes " collision" ++ box_text p.collision)
-    (bytes " issues " ++ (decimal p.issues ++ bytes "\n"))
-
--- the line of an issue of kind k
-pub issue_line_in_parts : (w k : ℕ) → w / 2 ^ 25 % 4 ≡ k → issue_line w ≡ bytes "issue " ++ (bytes (get_or kind_names k "") ++ (bytes " " ++ (decimal (w % 2 ^ 13) ++ bytes "\n")))
-unfolding issue_line
-issue_line_in_parts w k e = ap (λ (n : ℕ). bytes "issue " ++ (bytes (get_or kind_names n "") ++ (bytes " " ++ (decimal (w % 2 ^ 13) ++ bytes "\n")))) e

@@ -1,13 +1,15 @@
 // The lines of a report that tell of a building: its placement, and its issues. Each function puts its text behind the first `at` bytes and answers where the text ends.
 #![tactic(auto)]
 
-ghost use mathlib.Core.List.{flat_map};
-ghost use Rattle.model.specs.Report.{placement_line, issue_line};
+ghost use Rattle.std.specs.Prelude.{◌≡◌, ◌++◌, ◌/◌, ◌%◌, ◌^◌, get_or};
+ghost use Rattle.model.specs.Report.{bytes, kind_names, placement_line, issue_line};
 ghost use Rattle.text.specs.Writing.{Fits, Wrote};
 
 use model::WallPlacement;
+use text::Line;
 
 // "placement INDEX footprint BOX collision BOX issues COUNT"
+#[tactic(auto, unfolding(model::specs::Report::placement_line))]
 pub fn put_placement(out: &mut [u8], at: usize, index: usize, placement: WallPlacement) -> usize
     requires { Fits out.old at (placement_line index placement) }
     ensures { Wrote out.old at (placement_line index placement) out.new result }
@@ -23,31 +25,25 @@ pub fn put_placement(out: &mut [u8], at: usize, index: usize, placement: WallPla
     text::put_ending(out, issues, b" issues ", placement.issues as u64)
 }
 
-// "issue KIND INDEX": the kind stands in bits 25 and 26 of the word, the index in the low 13.
-fn put_issue(out: &mut [u8], at: usize, word: u32) -> usize
-    requires { Fits out.old at (issue_line word) }
-    ensures { Wrote out.old at (issue_line word) out.new result }
+// How the line of an issue begins: its kind stands in bits 25 and 26 of the word.
+fn issue_label(word: u32) -> &'static [u8]
+    ensures { result.now ≡ bytes "issue " ++ (bytes (get_or kind_names (word / 2 ^ 25 % 4) "") ++ bytes " ") }
 {
-    let kind = word / 33554432 % 4;
-    let index = (word % 8192) as u64;
-    match kind {
-        0 => text::put_ending(out, at, b"issue OutOfMap ", index),
-        1 => text::put_ending(out, at, b"issue UnbuildableTerrain ", index),
-        2 => text::put_ending(out, at, b"issue OverlapsObstacle ", index),
-        _ => text::put_ending(out, at, b"issue OverlapsBuilding ", index),
+    match (word >> 25) % 4 {
+        0 => b"issue OutOfMap ",
+        1 => b"issue UnbuildableTerrain ",
+        2 => b"issue OverlapsObstacle ",
+        _ => b"issue OverlapsBuilding ",
     }
 }
 
-// A line for each word.
-pub fn put_issues(out: &mut [u8], at: usize, words: &[u32]) -> usize
-    requires { Fits out.old at (flat_map issue_line words.now) }
-    ensures { Wrote out.old at (flat_map issue_line words.now) out.new result }
-{
-    let mut end = at;
-    let mut i = 0;
-    while i < words.len() {
-        end = put_issue(out, end, words[i]);
-        i += 1;
+// "issue KIND INDEX": the index stands in the low 13 bits of the word.
+pub struct IssueWord;
+
+impl Line for IssueWord {
+    ghost text = { issue_line };
+
+    fn put(out: &mut [u8], at: usize, word: u32) -> usize {
+        text::put_ending(out, at, issue_label(word), (word % 8192) as u64)
     }
-    end
 }

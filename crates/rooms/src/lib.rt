@@ -1,7 +1,7 @@
 // 17: the first lent area that is too small. It runs after 1 to 16, so that the window and the counts are within their caps.
 #![tactic(auto)]
 
-ghost use Rattle.std.specs.Prelude.{◌≡◌, ◌≤◌, length, take};
+ghost use Rattle.std.specs.Prelude.{◌≡◌, ◌≤◌, length};
 ghost use Rattle.model.specs.Ground.{Ground, obstacles};
 ghost use Rattle.model.specs.Refusal.{given, first};
 ghost use Rattle.model.specs.Areas.{room_lines, difference_room, center_room};
@@ -9,10 +9,10 @@ ghost use Rattle.model.specs.Check.{CheckAreas, check_rooms};
 ghost use Rattle.model.specs.RouteTest.{TestAreas, test_rooms};
 ghost use Rattle.rooms.specs.Lengths.{lengths, Small};
 
-use model::{Outcome, PixelRect, Room, WallError, WallQuery};
+use model::{PixelRect, Room, WallError, WallQuery};
 
 // How many places each of the areas 2 to 8 has.
-#[derive(Clone, Copy)]
+#[derive(Clone, Copy, Debug, PartialEq, Eq)]
 pub struct Lent {
     pub issues: usize,
     pub base: usize,
@@ -23,20 +23,16 @@ pub struct Lent {
     pub route: usize,
 }
 
-// The first of n areas that is too small.
-pub fn room_too_small(rooms: [Room; 7], n: usize) -> Outcome
-    requires { n ≤ 7 }
-    ensures { given result ≡ first (room_lines (take n rooms)) }
+// The first of the areas that is too small.
+pub fn room_too_small(rooms: &[Room]) -> Result<(), WallError>
+    ensures { given result ≡ first (room_lines rooms.now) }
 {
-    let mut i = 0;
-    while i < n {
-        let room = rooms[i];
+    for room in rooms {
         if room.has < room.needs {
-            return Outcome::Refused(WallError::RoomTooSmall { area: room.area });
+            return Err(WallError::RoomTooSmall { area: room.area });
         }
-        i += 1;
     }
-    Outcome::Accepted
+    Ok(())
 }
 
 // (w + 1)(h + 1) of a w by h window.
@@ -60,7 +56,7 @@ pub fn center_room(window: PixelRect) -> usize
 }
 
 // 17 of a check with n obstacles.
-pub fn check_room(query: WallQuery, n: usize, lent: Lent) -> Outcome
+pub fn check_room(query: WallQuery, n: usize, lent: Lent) -> Result<(), WallError>
     requires { Small query.window × ((n ≤ 8192) × (query.plan.count ≤ 32)) }
     ensures { (g : Ground) (a : CheckAreas) → n ≡ length (obstacles g) → lent ≡ lengths a → given result ≡ first (room_lines (check_rooms g query a)) }
 {
@@ -69,7 +65,7 @@ pub fn check_room(query: WallQuery, n: usize, lent: Lent) -> Outcome
     let issues = b * (n + b + 1);
     let differences = difference_room(query.window);
     let centers = center_room(query.window);
-    let rooms = [
+    let areas = [
         Room {
             area: 2,
             has: lent.issues,
@@ -106,22 +102,17 @@ pub fn check_room(query: WallQuery, n: usize, lent: Lent) -> Outcome
             needs: centers,
         },
     ];
-    room_too_small(rooms, 7)
+    room_too_small(&areas)
 }
 
 // 17 of a route test: areas 3 to 5 alone.
-pub fn test_room(query: WallQuery, base: usize, plan: usize, marks: usize) -> Outcome
+pub fn test_room(query: WallQuery, base: usize, plan: usize, marks: usize) -> Result<(), WallError>
     requires { Small query.window }
     ensures { (a : TestAreas) → base ≡ length a.base → plan ≡ length a.plan → marks ≡ length a.marks → given result ≡ first (room_lines (test_rooms query a)) }
 {
     let differences = difference_room(query.window);
     let centers = center_room(query.window);
-    let last = Room {
-        area: 5,
-        has: marks,
-        needs: 2 * centers,
-    };
-    let rooms = [
+    let areas_3_to_5 = [
         Room {
             area: 3,
             has: base,
@@ -132,11 +123,11 @@ pub fn test_room(query: WallQuery, base: usize, plan: usize, marks: usize) -> Ou
             has: plan,
             needs: differences,
         },
-        last,
-        last,
-        last,
-        last,
-        last,
+        Room {
+            area: 5,
+            has: marks,
+            needs: 2 * centers,
+        },
     ];
-    room_too_small(rooms, 3)
+    room_too_small(&areas_3_to_5)
 }

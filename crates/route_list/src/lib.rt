@@ -1,10 +1,10 @@
 // Whether a list of route words leads from one end to the other, by the marks of a window's centers.
 #![tactic(auto)]
 
-ghost use Rattle.std.specs.Prelude.{◌≡◌, ◌&&◌, [], map, ◌+◌, ◌*◌, ◌≤◌, eqb, length, get_or, take, drop};
+ghost use Rattle.std.specs.Prelude.{◌≡◌, ◌&&◌, [], map, ◌+◌, ◌≤◌, length, get_or, take, drop};
 ghost use Rattle.model.specs.Steps.{point_of};
 ghost use Rattle.model.specs.RouteTest as test;
-ghost use Rattle.way_back.specs.Ways.{Window};
+ghost use Rattle.way_back.specs.Ways.{Window, size};
 ghost use Rattle.route_list.specs.Reading.{ByMarks, Framed};
 
 use model::PixelPosition;
@@ -14,10 +14,7 @@ use stamps::Frame;
 fn near(a: u32, b: u32) -> bool
     ensures { result ≡ test.near a b }
 {
-    if a < b {
-        return b - a <= 1;
-    }
-    a - b <= 1
+    a.abs_diff(b) <= 1
 }
 
 // The center that a route word names.
@@ -39,37 +36,22 @@ fn is_free(marks: &[u8], frame: Frame, p: PixelPosition) -> bool
     let top = frame.top as usize;
     let x = search::wide(p.x);
     let y = search::wide(p.y);
-    if x < left {
+    if x < left || y < top || x - left >= frame.width || y - top >= frame.height {
         return false;
     }
-    if y < top {
-        return false;
-    }
-    if x - left >= frame.width {
-        return false;
-    }
-    if y - top >= frame.height {
-        return false;
-    }
-    route::is_clear(marks, frame.width, frame.height, left, top, p)
-}
-
-// Whether two positions are one.
-fn same(p: PixelPosition, q: PixelPosition) -> bool
-    ensures { result ≡ eqb p.x q.x && eqb p.y q.y }
-{
-    (p.x == q.x) & (p.y == q.y)
+    route::is_clear(marks, frame, p)
 }
 
 // Whether q may follow p: near on each axis, with both side centers free where they differ on both.
+#[tactic(auto, unfolding(model::specs::RouteTest::follows))]
 fn follows(marks: &[u8], frame: Frame, p: PixelPosition, q: PixelPosition) -> bool
     requires { Framed marks.now frame }
     ensures { ByMarks marks.now frame (λ free. test.follows free p q) result }
 {
     let beside = is_free(marks, frame, PixelPosition { x: q.x, y: p.y });
     let below = is_free(marks, frame, PixelPosition { x: p.x, y: q.y });
-    let straight = (p.x == q.x) | (p.y == q.y);
-    near(p.x, q.x) & near(p.y, q.y) & (straight | (beside & below))
+    let straight = p.x == q.x || p.y == q.y;
+    near(p.x, q.x) && near(p.y, q.y) && (straight || (beside && below))
 }
 
 // Whether p is free and q may follow it.
@@ -77,15 +59,16 @@ fn goes_on(marks: &[u8], frame: Frame, p: PixelPosition, q: PixelPosition) -> bo
     requires { Framed marks.now frame }
     ensures { ByMarks marks.now frame (λ free. free p.x p.y && test.follows free p q) result }
 {
-    is_free(marks, frame, p) & follows(marks, frame, p, q)
+    is_free(marks, frame, p) && follows(marks, frame, p, q)
 }
 
 // Whether p is free, and is the end.
+#[tactic(auto, unfolding(model::specs::RouteTest::leads_to))]
 fn arrives(marks: &[u8], frame: Frame, p: PixelPosition, end: PixelPosition) -> bool
     requires { Framed marks.now frame }
     ensures { ByMarks marks.now frame (λ free. test.leads_to free end p []) result }
 {
-    is_free(marks, frame, p) & same(p, end)
+    is_free(marks, frame, p) && p == end
 }
 
 // Whether each point of the list is free and followed by the next, and the last is the end.
@@ -94,14 +77,10 @@ fn leads_to(marks: &[u8], frame: Frame, list: &[u32], end: PixelPosition) -> boo
     ensures { ByMarks marks.now frame (λ free. test.leads_to free end (point_of (get_or list.now 0 0)) (map point_of (drop 1 list.now))) result }
 {
     let last = list.len() - 1;
-    let mut i = 0;
-    while i < last {
-        let p = point_of(list[i]);
-        let q = point_of(list[i + 1]);
-        if !goes_on(marks, frame, p, q) {
+    for i in 0..last {
+        if !goes_on(marks, frame, point_of(list[i]), point_of(list[i + 1])) {
             return false;
         }
-        i += 1;
     }
     arrives(marks, frame, point_of(list[last]), end)
 }
@@ -117,13 +96,10 @@ fn is_passage(
     requires { Framed marks.now frame }
     ensures { ByMarks marks.now frame (λ free. test.is_passage free start end (map point_of list.now)) result }
 {
-    if list.len() == 0 {
+    let [first, ..] = list else {
         return false;
-    }
-    if !same(point_of(list[0]), start) {
-        return false;
-    }
-    leads_to(marks, frame, list, end)
+    };
+    point_of(*first) == start && leads_to(marks, frame, list, end)
 }
 
 // The same by the marks after the plan, which stand behind those before it.
@@ -134,10 +110,10 @@ pub fn is_passage_planned(
     start: PixelPosition,
     end: PixelPosition,
 ) -> bool
-    requires { Window frame.left frame.top frame.width frame.height × (frame.width * frame.height + frame.width * frame.height ≤ length marks.now) }
-    ensures { ByMarks (take (frame.width * frame.height) (drop (frame.width * frame.height) marks.now)) frame (λ free. test.is_passage free start end (map point_of list.now)) result }
+    requires { Window frame × (size frame + size frame ≤ length marks.now) }
+    ensures { ByMarks (take (size frame) (drop (size frame) marks.now)) frame (λ free. test.is_passage free start end (map point_of list.now)) result }
 {
     let n = frame.width * frame.height;
-    let both = n + n;
-    is_passage(&marks[n..both], frame, list, start, end)
+    let planned = &marks[n..];
+    is_passage(&planned[..n], frame, list, start, end)
 }

@@ -1,7 +1,7 @@
 // What the programs that the gate runs have in common: printing a refusal with its values, and opening a file by its number.
 #![tactic(auto)]
 
-use model::Outcome;
+use model::WallError;
 use std::rt::Files;
 use std::{fs, io};
 
@@ -15,27 +15,16 @@ pub fn print_word(rt: &impl Print, n: u64) -> io::Result<()> {
     print!(rt; " {n}")
 }
 
-fn print_values(rt: &impl Print, values: [u64; 4], count: usize) -> io::Result<()> {
-    let mut i = 0;
-    while i < 4 {
-        if i < count {
-            print_word(rt, values[i])?;
-        }
-        i += 1;
-    }
-    Ok(())
-}
-
 // A refusal's number and its values, or ok.
-pub fn print_outcome(rt: &impl Print, outcome: Outcome) -> io::Result<()> {
-    let Outcome::Refused(e) = outcome else {
+pub fn print_refusal(rt: &impl Print, told: Result<(), WallError>) -> io::Result<()> {
+    let Err(e) = told else {
         return println!(rt; "ok");
     };
     let number = refusals::number(e);
-    print!(rt; "refused")?;
-    print_word(rt, number as u64)?;
-    if number < 21 {
-        print_values(rt, refusals::values(e), VALUES[number])?;
+    print!(rt; "refused {number}")?;
+    let count = VALUES.get(number).copied().unwrap_or(0);
+    for value in refusals::values(e).iter().take(count) {
+        print_word(rt, *value)?;
     }
     println!(rt;)
 }

@@ -12,10 +12,8 @@ fn one<R: Files + Print>(rt: &R, k: u8) -> io::Result<()> {
 }
 
 fn main(rt: HostRuntime) -> io::Result<()> {
-    let mut k = 0;
-    while k < 67 {
+    for k in 0..67 {
         one(&rt, k)?;
-        k += 1;
     }
     Ok(())
 }

@@ -1,71 +1,42 @@
 -- Moves, and what the steps from a center lead to. Assumes nothing.
-use mathlib.Core.Path.{◌≡◌, refl, ap, sym, subst, ◌∙◌}
+use mathlib.Core.Path.{◌≡◌, ap, sym, subst, ◌∙◌}
 use mathlib.Core.List.{List, []}
 use Prim.Native.Nat.{ℕ, zero, suc, ◌+◌, ◌-◌, ◌*◌, ◌<◌, ◌≤◌}
 use native.Mathlib.Omega.{arith}
 use lib.ListN.{length, get_or, set}
 use lib.Seq.{get_or-set_same, get_or-set_other}
 use borrow.Author.Count.{below_more}
-use lib.IntN.{ℤ, pos, negsuc}
-use mir.Syntax.{w32}
-use mir.Val.{SFits, to_z, of_z}
-use mir.Facts.{to_z-of_z}
-use Rattle.model.specs.declared.PixelPosition.{PixelPosition}
-use Rattle.model.specs.Steps.{steps, raised}
+use lib.IntN.{ℤ}
+use Rattle.model.specs.Steps.{steps}
 use Rattle.marks.specs.Marks.{Unmarked}
-use Rattle.search.specs.Places.{eastward, southward, Small, Inner, ahead, Seen}
+use Rattle.search.specs.Places.{eastward, southward, Small, Inner, Stays, ahead, Seen}
 use Rattle.search.proofs.Centers.{place_in}
 
--- a signed number by its bits: what the tests of a move say
-pub raised_zero : (d : ℤ) → SFits w32 d → of_z w32 d ≡ 0 → raised d ≡ 1
-raised_zero d f e = ap raised (sym (to_z-of_z f) ∙ ap (to_z w32) e)
+-- what holds of each of the eight steps
+pub each_step : (P : ℕ → Type 0) → P 0 → P 1 → P 2 → P 3 → P 4 → P 5 → P 6 → P 7 → (k : ℕ) → k < 8 → P k
+each_step P a b c d e f g h zero l = a
+each_step P a b c d e f g h (suc zero) l = b
+each_step P a b c d e f g h (suc (suc zero)) l = c
+each_step P a b c d e f g h (suc (suc (suc zero))) l = d
+each_step P a b c d e f g h (suc (suc (suc (suc zero)))) l = e
+each_step P a b c d e f g h (suc (suc (suc (suc (suc zero))))) l = f
+each_step P a b c d e f g h (suc (suc (suc (suc (suc (suc zero)))))) l = g
+each_step P a b c d e f g h (suc (suc (suc (suc (suc (suc (suc zero))))))) l = h
+each_step P a b c d e f g h (suc (suc (suc (suc (suc (suc (suc (suc k)))))))) l = absurd (omega arith)
 
-pub raised_one : (d : ℤ) → SFits w32 d → of_z w32 d ≡ 1 → raised d ≡ 2
-raised_one d f e = ap raised (sym (to_z-of_z f) ∙ ap (to_z w32) e)
-
--- a move that is neither 0 nor 1, nor greater, is −1
-pub raised_other : (d : ℤ) → (of_z w32 d ≡ 0 → ⊥) → (of_z w32 d ≡ 1 → ⊥) → raised d ≤ 2 → raised d ≡ 0
-raised_other (pos zero) a b l = absurd (a refl)
-raised_other (pos (suc zero)) a b l = absurd (b refl)
-raised_other (pos (suc (suc n))) a b l = absurd (omega arith)
-raised_other (negsuc n) a b l = refl
-
--- a move that was read from an array
-pub read_back : (z : ℤ) {r : ℕ} → SFits w32 z → r ≡ raised (to_z w32 (of_z w32 z)) → r ≡ raised z
-read_back z f e = e ∙ ap raised (to_z-of_z f)
-
--- the eight steps move by at most one
+-- they move by at most one
 pub step_small : (k : ℕ) → k < 8 → Small (get_or steps k [])
-step_small zero l = omega arith
-step_small (suc zero) l = omega arith
-step_small (suc (suc zero)) l = omega arith
-step_small (suc (suc (suc zero))) l = omega arith
-step_small (suc (suc (suc (suc zero)))) l = omega arith
-step_small (suc (suc (suc (suc (suc zero))))) l = omega arith
-step_small (suc (suc (suc (suc (suc (suc zero)))))) l = omega arith
-step_small (suc (suc (suc (suc (suc (suc (suc zero))))))) l = omega arith
-step_small (suc (suc (suc (suc (suc (suc (suc (suc k)))))))) l = absurd (omega arith)
+step_small = each_step (λ k. Small (get_or steps k [])) (omega arith) (omega arith) (omega arith) (omega arith) (omega arith) (omega arith) (omega arith) (omega arith)
 
 -- where a step leads: column and row, and place
 pub landed : (w x y a b nx ny : ℕ) → nx + 1 ≡ x + a → ny + 1 ≡ y + b → y * w + x + (a + b * w) ≡ ny * w + nx + (w + 1)
 landed w x y a b nx ny ex ey = omega (arith, ap (λ (n : ℕ). n * w) ey)
 
 module _ (w h x y : ℕ) (d : List ℤ) where
-  -- the step leaves the window
-  pub seen_outside : (marks : List ℕ) → ((q : PixelPosition) → q.x + 1 ≡ x + eastward d → q.y + 1 ≡ y + southward d → q.x < w → q.y < h → ⊥) → Seen (Unmarked marks w h) x y d 1
-  seen_outside marks out = record { is = λ z. absurd (omega arith); all = λ q a b f. absurd (out q a b f.0 f.1); small = omega arith }
-
-  -- the step stays in the window
-  pub record Stays : Type 0 where
-    pub west : 1 ≤ x + eastward d
-    pub east : x + eastward d ≤ w
-    pub north : 1 ≤ y + southward d
-    pub south : y + southward d ≤ h
-
-  pub inner_stays : Inner w h x y → Small d → Stays
+  pub inner_stays : Inner w h x y → Small d → Stays w h x y d
   inner_stays i s = record { west = omega (arith, i.west); east = omega (arith, i.east, s.x); north = omega (arith, i.north); south = omega (arith, i.south, s.y) }
 
-  module _ (p : ℕ) (placed : p ≡ y * w + x) (stays : Stays) where
+  module _ (p : ℕ) (placed : p ≡ y * w + x) (stays : Stays w h x y d) where
     abbrev nx : ℕ
     nx = x + eastward d - 1
 

@@ -1,5 +1,5 @@
 -- What one step that is tried does to the search's state, and how such steps join. Assumes nothing.
-use mathlib.Core.Path.{◌≡◌, refl, ap, sym, subst, ◌∙◌}
+use mathlib.Core.Path.{◌≡◌, refl, sym, subst, ◌∙◌}
 use mathlib.Core.List.{List, []}
 use Prim.Native.Nat.{ℕ, ◌+◌, ◌<◌}
 use native.Mathlib.Omega.{arith}
@@ -9,17 +9,9 @@ use lib.Seq.{get_or-set_other}
 use Rattle.model.specs.Steps.{steps, Step}
 use Rattle.model.proofs.Chains.{step_one}
 use Rattle.search.specs.Places.{center, ahead}
-use Rattle.search.specs.Search.{noted, Expanding, Works, Bars, Growing, Tried}
+use Rattle.search.specs.Search.{Expanding, Works, Bars, Growing, Tried}
 use Rattle.search.proofs.Noted.{noted_more, noted_room}
 use Rattle.search.proofs.Stepping.{passed, pushed}
-
--- a place that is barred or has been found
-pub left_alone : {p next bar tail : ℕ} {queue parents : List ℕ} → 0 < get_or parents next 0 + bar → Tried p next bar queue parents tail queue parents tail
-left_alone some = record { old = λ _. (refl, refl, refl); new = λ none. absurd (omega (arith, some, none)) }
-
--- one that is not
-pub put_in : {p next next' bar tail : ℕ} {queue parents : List ℕ} → get_or parents next 0 + bar ≡ 0 → next' ≡ next → Tried p next bar queue parents tail (set queue tail next') (set parents next' (p + 1)) (tail + 1)
-put_in {p} {tail = tail} {queue = queue} {parents = parents} none e = record { old = λ some. absurd (omega (arith, some, none)); new = λ _. (ap (set queue tail) e, ap (λ (n : ℕ). set parents n (p + 1)) e, refl) }
 
 -- lists and a tail that are the ones at work
 works_same : {free : ℕ → ℕ → Type 0} {w head tail k tail₁ tail₂ k' : ℕ} {queue parents queue₁ parents₁ queue₂ parents₂ : List ℕ}
@@ -71,10 +63,7 @@ module _ {free : ℕ → ℕ → Type 0} {w n p head tail : ℕ} (queue parents 
       split (yes z) = let e = t.new z in works_same e.0 e.1 e.2 (new_place (omega (arith, (allowed.inside k small (omega (arith, z))).1, long)) z)
       split (no z) = let some : 0 < get_or parents (place_after w p k) 0 + get_or bars k 0 = omega arith in let e = t.old some in works_same e.0 e.1 e.2 (old_place some)
 
--- no step yet, and steps one after the other
-pub works_none : {free : ℕ → ℕ → Type 0} {w head tail k : ℕ} {queue parents : List ℕ} → noted parents ≡ tail → Works free w head queue parents tail k queue parents tail k
-works_none c = record { counted = c; grown = omega arith; kept = λ i l. refl; goes_on = λ s e X. X }
-
+-- steps one after the other
 pub works_then : {free : ℕ → ℕ → Type 0} {w head t₁ k₁ t₂ k₂ t₃ k₃ : ℕ} {q₁ p₁ q₂ p₂ q₃ p₃ : List ℕ} → Works free w head q₁ p₁ t₁ k₁ q₂ p₂ t₂ k₂ → Works free w head q₂ p₂ t₂ k₂ q₃ p₃ t₃ k₃ → Works free w head q₁ p₁ t₁ k₁ q₃ p₃ t₃ k₃
 works_then a b = record {
   counted = b.counted;

@@ -2,14 +2,32 @@
 use Rattle.std.specs.Prelude.{◌≡◌, List, [], ◌∷◌, ℕ, ◌+◌, ◌*◌, ◌-◌, ◌/◌, ◌%◌, ◌<◌, ◌≤◌, length, get_or, ℤ, pos}
 use Rattle.model.specs.declared.PixelPosition.{PixelPosition}
 use Rattle.model.specs.Steps.{steps, raised}
+use Rattle.marks.specs.Marks.{Unmarked}
+use Rattle.search.specs.declared.Field.{Field}
+use Rattle.search.specs.declared.Center.{Center}
 
 -- the window's center at place p
 abbrev pub center : ℕ → ℕ → PixelPosition
 center w p = record { x = p % w; y = p / w }
 
--- the map's center there, where the window's corner is (left, top)
-abbrev pub spot : ℕ → ℕ → ℕ → ℕ → PixelPosition
-spot left top w p = record { x = left + p % w; y = top + p / w }
+-- how many centers a field has
+abbrev pub size : Field → ℕ
+size f = f.width * f.height
+
+-- a center of the field is free
+abbrev pub Free : Field → ℕ → ℕ → Type 0
+Free f x y = Unmarked f.marks.now f.width f.height x y
+
+-- A field of few centers, each of which has a mark.
+pub record Marked (f : Field) : Type 0 where
+  pub limit : size f ≤ 1048576
+  pub long : size f ≤ length f.marks.now
+
+-- A center of the field, by its place.
+pub record Placed (f : Field) (c : Center) : Type 0 where
+  pub place : c.place ≡ c.y * f.width + c.x
+  pub column : c.x < f.width
+  pub row : c.y < f.height
 
 -- The areas of a search among w by h centers.
 pub record Areas (w h : ℕ) (marks parents queue : List ℕ) : Type 0 where
@@ -40,6 +58,13 @@ southward d = raised (get_or d 1 (pos 0))
 pub record Small (d : List ℤ) : Type 0 where
   pub x : eastward d ≤ 2
   pub y : southward d ≤ 2
+
+-- The step d from (x, y) stays in the window.
+pub record Stays (w h x y : ℕ) (d : List ℤ) : Type 0 where
+  pub west : 1 ≤ x + eastward d
+  pub east : x + eastward d ≤ w
+  pub north : 1 ≤ y + southward d
+  pub south : y + southward d ≤ h
 
 -- the place that the step d leads to from place p
 abbrev pub ahead : ℕ → ℕ → List ℤ → ℕ

@@ -5,14 +5,29 @@
 // most once, so the queue never wraps.
 #![tactic(auto)]
 
-ghost use Rattle.std.specs.Prelude.{◌≡◌, ℕ, ◌+◌, ◌*◌, ◌/◌, ◌%◌, ◌<◌, ◌≤◌, length, get_or};
+ghost use Rattle.std.specs.Prelude.{◌≡◌, true, false, ℕ, ◌+◌, ◌*◌, ◌/◌, ◌%◌, ◌<◌, ◌≤◌, length, get_or};
 ghost use Rattle.model.specs.Steps.{raised};
-ghost use Rattle.marks.specs.Marks.{Unmarked};
-ghost use Rattle.search.specs.Places.{Areas, Blank, Inner, Small, eastward, southward, ahead, Seen, Around, Allows};
+ghost use Rattle.search.specs.Places.{Free, Marked, Placed, size, Areas, Blank, Inner, Stays, Small, eastward, southward, ahead, Seen, Around, Allows};
 ghost use Rattle.search.specs.Search.{noted, Growing, Tried, Works, Sought};
 
-// Whether a search found the end, and how many entries of the queue it used.
-#[derive(Clone, Copy)]
+// The centers that a search goes over: their marks, row by row, and the window's size.
+#[derive(Clone, Copy, Debug, PartialEq, Eq)]
+pub struct Field<'a> {
+    pub marks: &'a [u8],
+    pub width: usize,
+    pub height: usize,
+}
+
+// A center, by its place, its column and its row.
+#[derive(Clone, Copy, Debug, PartialEq, Eq)]
+struct Center {
+    place: usize,
+    x: usize,
+    y: usize,
+}
+
+// Whether a search found the end, and how many entries of the queue it used, in either case.
+#[derive(Clone, Copy, Debug, PartialEq, Eq)]
 pub struct Ended {
     pub found: bool,
     pub used: usize,
@@ -41,74 +56,65 @@ fn lifted(d: i32) -> usize
     requires { raised d ≤ 2 }
     ensures { result ≡ raised d }
 {
-    if d == 0 {
-        return 1;
+    match d {
+        0 => 1,
+        1 => 2,
+        _ => 0,
     }
-    if d == 1 {
-        return 2;
-    }
-    0
 }
 
 // The place that step d leads to from place p.
 fn step_from(w: usize, p: usize, d: [i32; 2]) -> usize
     requires small { Small d }
-    requires w_bound { (w ≤ 1048576) × (p < 1048576) }
-    requires w_bound_2 { w + 1 ≤ p + (eastward d + southward d * w) }
+    requires limit { (w ≤ 1048576) × (p < 1048576) }
+    requires ahead { w + 1 ≤ p + (eastward d + southward d * w) }
     ensures { result ≡ ahead w p d }
 {
     p + (lifted(d[0]) + lifted(d[1]) * w) - (w + 1)
 }
 
-// The mark of the center that step d leads to from (x, y) at place p, and 1 where that is outside the window.
-fn neighbour(marks: &[u8], w: usize, h: usize, p: usize, x: usize, y: usize, d: [i32; 2]) -> usize
-    requires h_bound { (w * h ≤ 1048576) × (w * h ≤ length marks.now) }
-    requires p_value { (p ≡ y * w + x) × (x < w) × (y < h) }
+// Whether step d stays in the window. Only at the window's edge is there anything to test.
+fn stays<const AT_EDGE: bool>(field: Field<'_>, from: Center, d: [i32; 2]) -> bool
+    requires limit { field.width * field.height ≤ 1048576 }
+    requires placed { Placed field from }
+    requires inner { AT_EDGE ≡ false → Inner field.width field.height from.x from.y }
     requires small { Small d }
-    ensures { Seen (Unmarked marks.now w h) x y d result }
+    ensures yes { result ≡ true → Stays field.entry.width field.entry.height from.x from.y d }
+    ensures no { result ≡ false → Stays field.entry.width field.entry.height from.x from.y d → ⊥ }
 {
-    let east = x + lifted(d[0]);
-    if east == 0 {
-        return 1;
+    if !AT_EDGE {
+        return true;
     }
-    if east > w {
-        return 1;
-    }
-    let south = y + lifted(d[1]);
-    if south == 0 {
-        return 1;
-    }
-    if south > h {
-        return 1;
-    }
-    marks::mark(marks, step_from(w, p, d))
+    let east = from.x + lifted(d[0]);
+    let south = from.y + lifted(d[1]);
+    0 < east && east <= field.width && 0 < south && south <= field.height
 }
 
-// What the eight steps from (x, y) at place p lead to: 0 for a free center.
-fn around(marks: &[u8], w: usize, h: usize, p: usize, x: usize, y: usize) -> [usize; 8]
-    requires h_bound { (w * h ≤ 1048576) × (w * h ≤ length marks.now) }
-    requires p_value { (p ≡ y * w + x) × (x < w) × (y < h) }
-    ensures { Around (Unmarked marks.now w h) x y result }
+// The mark of the center that step d leads to, and 1 where that is outside the window.
+fn neighbour<const AT_EDGE: bool>(field: Field<'_>, from: Center, d: [i32; 2]) -> usize
+    requires marked { Marked field }
+    requires placed { Placed field from }
+    requires inner { AT_EDGE ≡ false → Inner field.width field.height from.x from.y }
+    requires small { Small d }
+    ensures { Seen (Free field.entry) from.x from.y d result }
+{
+    if !stays::<AT_EDGE>(field, from, d) {
+        return 1;
+    }
+    marks::mark(field.marks, step_from(field.width, from.place, d))
+}
+
+// What the eight steps from a center lead to: 0 for a free center.
+fn around<const AT_EDGE: bool>(field: Field<'_>, from: Center) -> [usize; 8]
+    requires marked { Marked field }
+    requires placed { Placed field from }
+    requires inner { AT_EDGE ≡ false → Inner field.width field.height from.x from.y }
+    ensures { Around (Free field.entry) from.x from.y result }
 {
     let mut seen = [0usize; 8];
     for k in 0..8 {
         let d = STEPS[k];
-        seen[k] = neighbour(marks, w, h, p, x, y, d);
-    }
-    seen
-}
-
-// The same for a center that is not at the window's edge.
-fn around_inner(marks: &[u8], w: usize, h: usize, p: usize, x: usize, y: usize) -> [usize; 8]
-    requires h_bound { (w * h ≤ 1048576) × (w * h ≤ length marks.now) }
-    requires p_value { p ≡ y * w + x }
-    requires inner { Inner w h x y }
-    ensures { Around (Unmarked marks.now w h) x y result }
-{
-    let mut seen = [0usize; 8];
-    for k in 0..8 {
-        let d = STEPS[k];
-        seen[k] = marks::mark(marks, step_from(w, p, d));
+        seen[k] = neighbour::<AT_EDGE>(field, from, d);
     }
     seen
 }
@@ -130,9 +136,9 @@ fn barred(seen: [usize; 8]) -> [usize; 8]
     ]
 }
 
-// Tries step d from place p to a place of the window: that is queued, with its parent, unless the step is barred or the
-// place has been found. Returns the queue's new end.
-fn try_step(
+// Tries step d from place p: the place that it leads to is queued, with its parent, unless the step is barred or the place has
+// been found. Returns the queue's new end. At the window's edge only a step that is not barred leads to a place of the window.
+fn try_step<const AT_EDGE: bool>(
     w: usize,
     parents: &mut [u32],
     queue: &mut [u32],
@@ -143,9 +149,12 @@ fn try_step(
 ) -> usize
     requires growing { Growing parents.old queue.old tail }
     requires small { Small d × (w ≤ 1048576) × (p < length parents.old) × (bar ≤ 765) }
-    requires w_bound { (w + 1 ≤ p + (eastward d + southward d * w)) × (ahead w p d < length parents.old) }
+    requires lands { (AT_EDGE ≡ true → bar ≡ 0) → (w + 1 ≤ p + (eastward d + southward d * w)) × (ahead w p d < length parents.old) }
     ensures { Tried p (ahead w p d) bar queue.old parents.old tail queue.new parents.new result }
 {
+    if AT_EDGE && bar != 0 {
+        return tail;
+    }
     let next = step_from(w, p, d);
     // One sum and one test: two branches would be foretold worse.
     if wide(parents[next]) + bar != 0 {
@@ -156,128 +165,66 @@ fn try_step(
     tail + 1
 }
 
-// The same for a step that leads to a place of the window unless it is barred.
-fn try_edge_step(
-    w: usize,
-    parents: &mut [u32],
-    queue: &mut [u32],
-    tail: usize,
-    p: usize,
-    d: [i32; 2],
-    bar: usize,
-) -> usize
-    requires growing { Growing parents.old queue.old tail }
-    requires small { Small d × (w ≤ 1048576) × (p < length parents.old) }
-    requires w_bound { bar ≡ 0 → (w + 1 ≤ p + (eastward d + southward d * w)) × (ahead w p d < length parents.old) }
-    ensures { Tried p (ahead w p d) bar queue.old parents.old tail queue.new parents.new result }
-{
-    if bar != 0 {
-        return tail;
-    }
-    try_step(w, parents, queue, tail, p, d, bar)
-}
-
-// Tries the eight steps of the queue's entry `head`, at (x, y) and place p, in their order. Returns the queue's new end.
-fn expand_edge(
-    marks: &[u8],
-    w: usize,
-    h: usize,
+// Tries the eight steps of the queue's entry `head`, a center, in their order. Returns the queue's new end.
+fn try_steps<const AT_EDGE: bool>(
+    field: Field<'_>,
     parents: &mut [u32],
     queue: &mut [u32],
     head: usize,
     tail: usize,
-    p: usize,
-    x: usize,
-    y: usize,
+    from: Center,
 ) -> usize
-    requires areas { Areas w h marks.now parents.old queue.old }
-    requires head_lt_tail { (head < tail) × (noted parents.old ≡ tail) × (get_or queue.old head 0 ≡ p) }
-    requires p_value { (p ≡ y * w + x) × Unmarked marks.now w h x y }
-    ensures { Works (Unmarked marks.now w h) w head queue.old parents.old tail 0 queue.new parents.new result 8 }
+    requires areas { Areas field.width field.height field.marks.now parents.old queue.old }
+    requires entry { (head < tail) × (noted parents.old ≡ tail) × (get_or queue.old head 0 ≡ from.place) }
+    requires placed { Placed field from × Free field from.x from.y }
+    requires inner { AT_EDGE ≡ false → Inner field.width field.height from.x from.y }
+    ensures { Works (Free field.entry) field.entry.width head queue.old parents.old tail 0 queue.new parents.new result 8 }
 {
-    let bars = barred(around(marks, w, h, p, x, y));
+    let bars = barred(around::<AT_EDGE>(field, from));
     let mut end = tail;
     for k in 0..8 {
         let d = STEPS[k];
         let bar = bars[k];
-        end = try_edge_step(w, parents, queue, end, p, d, bar);
-    }
-    end
-}
-
-// The same for an entry that is not at the window's edge.
-fn expand_inner(
-    marks: &[u8],
-    w: usize,
-    h: usize,
-    parents: &mut [u32],
-    queue: &mut [u32],
-    head: usize,
-    tail: usize,
-    p: usize,
-    x: usize,
-    y: usize,
-) -> usize
-    requires areas { Areas w h marks.now parents.old queue.old }
-    requires head_lt_tail { (head < tail) × (noted parents.old ≡ tail) × (get_or queue.old head 0 ≡ p) }
-    requires p_value { (p ≡ y * w + x) × Unmarked marks.now w h x y }
-    requires inner { Inner w h x y }
-    ensures { Works (Unmarked marks.now w h) w head queue.old parents.old tail 0 queue.new parents.new result 8 }
-{
-    let bars = barred(around_inner(marks, w, h, p, x, y));
-    let mut end = tail;
-    for k in 0..8 {
-        let d = STEPS[k];
-        let bar = bars[k];
-        end = try_step(w, parents, queue, end, p, d, bar);
+        end = try_step::<AT_EDGE>(field.width, parents, queue, end, from.place, d, bar);
     }
     end
 }
 
 // Tries the eight steps of the queue's entry `head` in their order. Returns the queue's new end.
 fn expand(
-    marks: &[u8],
-    w: usize,
-    h: usize,
+    field: Field<'_>,
     parents: &mut [u32],
     queue: &mut [u32],
     head: usize,
     tail: usize,
 ) -> usize
-    requires areas { Areas w h marks.now parents.old queue.old }
-    requires head_lt_tail { (head < tail) × (noted parents.old ≡ tail) }
-    requires unmarked { Unmarked marks.now w h (get_or queue.old head 0 % w) (get_or queue.old head 0 / w) }
-    ensures { Works (Unmarked marks.now w h) w head queue.old parents.old tail 0 queue.new parents.new result 8 }
+    requires areas { Areas field.width field.height field.marks.now parents.old queue.old }
+    requires entry { (head < tail) × (noted parents.old ≡ tail) }
+    requires free { Free field (get_or queue.old head 0 % field.width) (get_or queue.old head 0 / field.width) }
+    ensures { Works (Free field.entry) field.entry.width head queue.old parents.old tail 0 queue.new parents.new result 8 }
 {
-    let p = wide(queue[head]);
-    let x = p % w;
-    let y = p / w;
-    if x > 0 {
-        if x + 1 < w {
-            if y > 0 {
-                if y + 1 < h {
-                    return expand_inner(marks, w, h, parents, queue, head, tail, p, x, y);
-                }
-            }
-        }
+    let place = wide(queue[head]);
+    let x = place % field.width;
+    let y = place / field.width;
+    let from = Center { place, x, y };
+    if 0 < x && x + 1 < field.width && 0 < y && y + 1 < field.height {
+        return try_steps::<false>(field, parents, queue, head, tail, from);
     }
-    expand_edge(marks, w, h, parents, queue, head, tail, p, x, y)
+    try_steps::<true>(field, parents, queue, head, tail, from)
 }
 
 // Searches from `start`, which is free, for `end`.
 pub fn seek(
-    marks: &[u8],
-    w: usize,
-    h: usize,
+    field: Field<'_>,
     parents: &mut [u32],
     queue: &mut [u32],
     start: usize,
     end: usize,
 ) -> Ended
-    requires areas { Areas w h marks.now parents.old queue.old }
-    requires start_bound { (start < w * h) × Unmarked marks.now w h (start % w) (start / w) }
-    requires blank { Blank (w * h) parents.old × Blank (w * h) queue.old }
-    ensures { Sought (Unmarked marks.now w h) w start end (w * h) queue.new parents.new result.found result.used }
+    requires areas { Areas field.width field.height field.marks.now parents.old queue.old }
+    requires start_free { (start < size field) × Free field (start % field.width) (start / field.width) }
+    requires blank { Blank (size field) parents.old × Blank (size field) queue.old }
+    ensures { Sought (Free field.entry) field.entry.width start end (size field.entry) queue.new parents.new result.found result.used }
 {
     parents[start] = (start + 1) as u32;
     queue[0] = start as u32;
@@ -290,7 +237,7 @@ pub fn seek(
                 used: tail,
             };
         }
-        tail = expand(marks, w, h, parents, queue, head, tail);
+        tail = expand(field, parents, queue, head, tail);
         head += 1;
     }
     Ended {

@@ -1,35 +1,22 @@
 -- What stamps add to a grid, one after the other: laws of `Adds`. Assumes nothing.
 use mathlib.Core.Path.{◌≡◌, refl, sym, ap, ◌∙◌}
-use mathlib.Core.Bool.{Bool, true, false, ◌||◌}
+use mathlib.Core.Bool.{Bool, false, ◌||◌}
 use mathlib.Core.List.{List, ◌++◌}
 use Prim.Native.Nat.{ℕ, ◌+◌, ◌*◌, ◌^◌, ◌≤◌, ◌<◌}
-use native.Mathlib.Nat.{mod-eq_of_lt}
 use native.Mathlib.Omega.{arith}
-use native.Mathlib.Decide.{dec_lt}
 use lib.Dec.{ltb}
-use lib.ListN.{drop, replicate, length-replicate}
-use lib.Seq.{drop_at}
-use borrow.Author.Tests.{lt-ltb, le-ltb}
-use Rattle.numbers.proofs.Tests.{or_assoc}
-use Rattle.numbers.proofs.Places.{rows_fit}
+use lib.ListN.{drop, replicate, take, get_or, length}
+use Rattle.std.proofs.lemmas.Grind.{common_steps}
+use Rattle.std.proofs.lemmas.Bool.Decides.{nat_tests}
+use Rattle.model.specs.declared.PixelRect.{PixelRect}
+use Rattle.model.specs.declared.CollisionBounds.{CollisionBounds}
+use Rattle.model.specs.Lists.{any}
 use Rattle.model.specs.Areas.{cleared}
 use Rattle.grid.specs.Grid.{box, no_box, plus_box, Boxed, Finished}
 use Rattle.grid.proofs.Uses.{blank, box_small}
-use Rattle.stamps.specs.Stamps.{Stamped, Adds, Counted, among}
-use Rattle.stamps.proofs.Some.{among_none, among_next}
-
--- a sum is above zero where a part is
-above_sum : (a b : ℕ) → ltb 0 (a + b) ≡ ltb 0 b || ltb 0 a
-above_sum a b = pick (dec_lt 0 a) (dec_lt 0 b)
-  where
-    pick : Dec (0 < a) → Dec (0 < b) → ltb 0 (a + b) ≡ ltb 0 b || ltb 0 a
-    pick p (yes q) = rw (lt-ltb 0 (a + b) (omega arith), lt-ltb 0 b q)
-    pick (yes p) (no q) = rw (lt-ltb 0 (a + b) (omega arith), le-ltb 0 b (omega arith), lt-ltb 0 a p)
-    pick (no p) (no q) = rw (le-ltb 0 (a + b) (omega arith), le-ltb 0 b (omega arith), le-ltb 0 a (omega arith))
-
-or_none : (t : Bool) → t || false ≡ t
-or_none true = refl
-or_none false = refl
+use Rattle.stamps.specs.declared.Frame.{Frame}
+use Rattle.stamps.specs.Stamps.{Stamped, Adds, Counted, among, stop, stops}
+use Rattle.stamps.proofs.Some.{among_none, among_next, any_more}
 
 module _ {w h : ℕ} where
   -- nothing stamped, nothing added
@@ -39,7 +26,7 @@ module _ {w h : ℕ} where
       count = S.count;
       differences = S.differences;
       few = λ x y. omega (arith, S.few x y);
-      covered = λ x y hx hy. S.covered x y hx hy ∙ sym (or_none (P x y));
+      covered = λ x y hx hy. grind (arith, S.covered x y hx hy);
     };
     rest = refl;
   }
@@ -53,7 +40,7 @@ module _ {w h : ℕ} where
           count = s.count;
           differences = s.differences;
           few = λ x y. omega (arith, s.few x y);
-          covered = λ x y hx hy. s.covered x y hx hy ∙ or_assoc (P x y) (Q x y) (R x y);
+          covered = λ x y hx hy. grind (arith, s.covered x y hx hy);
         });
     rest = B.rest ∙ A.rest;
   }
@@ -67,7 +54,7 @@ module _ {w h : ℕ} where
           count = s.count;
           differences = s.differences;
           few = λ x y. omega (arith, s.few x y);
-          covered = λ x y hx hy. s.covered x y hx hy ∙ ap (λ (t : Bool). P x y || t) (e x y hx hy);
+          covered = λ x y hx hy. grind (arith, s.covered x y hx hy, e x y hx hy);
         });
     rest = A.rest;
   }
@@ -88,9 +75,9 @@ module _ {w h : ℕ} where
       count = plus_box l t r b S.count;
       differences = B.stamped (h + 1) S.count (omega arith) S.differences;
       few = λ x y. omega (arith, S.few x y, box_small l t r b x y);
-      covered = λ x y hx hy. rw (above_sum (box l t r b x y) (S.count x y), S.covered x y hx hy, e x y hx hy);
+      covered = λ x y hx hy. grind (arith, nat_tests, S.covered x y hx hy, e x y hx hy);
     };
-    rest = B.rest ((h + 1) * (w + 1)) (rows_fit (w + 1) b (h + 1) ((h + 1) * (w + 1)) (omega arith) (omega arith));
+    rest = B.rest ((h + 1) * (w + 1)) (grind arith);
   }
 
   -- a cleared grid covers nothing
@@ -105,6 +92,19 @@ module _ {w h : ℕ} where
       let s = (rw e at A).stamped 0 (λ x y. false) (stamped_none (drop n was)) in
       record {
         above = λ x y hx hy.
-            ap (ltb 0) ((F.counted s.count s.differences).count x y (omega arith) (omega arith) ∙ mod-eq_of_lt (omega (arith, s.few x y))) ∙ s.covered x y hx hy;
-        rest = F.rest ∙ A.rest ∙ ap (drop n) e ∙ drop_at (replicate n 0) (drop n was) n (length-replicate {A = ℕ} n 0);
+            grind (arith, common_steps, (F.counted s.count s.differences).count x y (omega arith) (omega arith), s.few x y, s.covered x y hx hy);
+        rest = grind (arith, common_steps, F.rest, A.rest);
       }
+
+-- the boxes of a list, one after the other: none yet, one more, and all
+module _ (f : Frame) (m : CollisionBounds) (boxes : List PixelRect) where
+  pub stops_none : (g : List ℕ) → Adds f.width f.height 0 (stops f m (take 0 boxes)) g g
+  unfolding any
+  stops_none g = adds_none g
+
+  pub stops_more : (d : PixelRect) (i : ℕ) {was mid now : List ℕ} → i < length boxes → Adds f.width f.height i (stops f m (take i boxes)) was mid → Adds f.width f.height 1 (stop f m (get_or boxes i d)) mid now
+      → Adds f.width f.height (i + 1) (stops f m (take (i + 1) boxes)) was now
+  stops_more d i l A B = adds_same (omega arith) (λ x y hx hy. any_more (λ b. stop f m b x y) d boxes i l) (adds_then A B)
+
+  pub stops_all : (i : ℕ) {k : ℕ} {was now : List ℕ} → length boxes ≤ i → i ≤ k → Adds f.width f.height i (stops f m (take i boxes)) was now → Adds f.width f.height k (stops f m boxes) was now
+  stops_all i h l A = adds_same l (λ x y hx hy. ap (λ (bs : List PixelRect). stops f m bs x y) (grind (arith, common_steps))) A

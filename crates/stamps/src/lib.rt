@@ -2,7 +2,7 @@
 // edge is stamped too, so that a center where the mover's box leaves the map is covered like any other that is blocked.
 #![tactic(auto)]
 
-ghost use Rattle.std.specs.Prelude.{◌≡◌, ◌+◌, ◌*◌, ◌^◌, ◌<◌, ◌≤◌, length};
+ghost use Rattle.std.specs.Prelude.{◌≡◌, ◌^◌, ◌<◌, ◌≤◌};
 ghost use Rattle.model.specs.declared.PixelRect.{PixelRect};
 ghost use Rattle.model.specs.Refusal.{caps};
 ghost use Rattle.stamps.specs.Stamps.{Framed, Adds, Carried, clipped, stop, inner_of, outside, leaves};
@@ -16,7 +16,7 @@ pub const CARRY: u64 = 4294967296;
 pub const PIXELS_PER_WALK_CELL: u64 = 8;
 
 // The window's corner and its size in centers.
-#[derive(Clone, Copy)]
+#[derive(Clone, Copy, Debug, PartialEq, Eq)]
 pub struct Frame {
     pub left: u64,
     pub top: u64,
@@ -25,7 +25,7 @@ pub struct Frame {
 }
 
 // A rectangle carried up by 2^32 along both axes.
-#[derive(Clone, Copy)]
+#[derive(Clone, Copy, Debug, PartialEq, Eq)]
 pub struct Raised {
     pub left: u64,
     pub top: u64,
@@ -34,7 +34,7 @@ pub struct Raised {
 }
 
 // From one offset up to, not including, another.
-#[derive(Clone, Copy)]
+#[derive(Clone, Copy, Debug, PartialEq, Eq)]
 pub struct Span {
     pub from: usize,
     pub to: usize,
@@ -45,11 +45,11 @@ fn clip(lo: u64, hi: u64, before: u32, after: u32, start: u64, size: usize) -> S
     requires { (hi < 2 ^ 62) × (start < 2 ^ 62) }
     ensures { result ≡ clipped lo hi before after start size }
 {
-    let from = numbers::minus(lo, CARRY + after as u64 + start);
-    let to = numbers::minus(hi + before as u64, CARRY + start);
+    let from = lo.saturating_sub(CARRY + after as u64 + start);
+    let to = (hi + before as u64).saturating_sub(CARRY + start);
     Span {
         from: from as usize,
-        to: numbers::least(to, size as u64) as usize,
+        to: to.min(size as u64) as usize,
     }
 }
 
@@ -59,7 +59,6 @@ pub fn stamp_expanded(grid: &mut [u32], frame: Frame, mover: CollisionBounds, bl
     requires right_bound { (blocker.right < 2 ^ 62) × (blocker.bottom < 2 ^ 62) }
     ensures { (b : PixelRect) → Carried b blocker → Adds frame.width frame.height 1 (stop frame mover b) grid.old grid.new }
 {
-    let width = frame.width;
     let columns = clip(
         blocker.left,
         blocker.right,
@@ -78,7 +77,7 @@ pub fn stamp_expanded(grid: &mut [u32], frame: Frame, mover: CollisionBounds, bl
     );
     grid::add_rect(
         grid,
-        width + 1,
+        frame.width + 1,
         columns.from,
         rows.from,
         columns.to,
@@ -91,20 +90,22 @@ fn inner(start: u64, size: usize, before: u32, after: u32, cells: usize) -> Span
     requires { (start < 2 ^ 62) × (cells < 2 ^ 32) }
     ensures { result ≡ inner_of start size before after cells }
 {
-    let first = numbers::minus(before as u64, start);
-    let past = numbers::minus(PIXELS_PER_WALK_CELL * cells as u64, after as u64 + start);
+    let first = (before as u64).saturating_sub(start);
+    let past = (PIXELS_PER_WALK_CELL * cells as u64).saturating_sub(after as u64 + start);
     Span {
-        from: numbers::least(first, size as u64) as usize,
+        from: first.min(size as u64) as usize,
         to: past as usize,
     }
 }
 
 // Stamps the centers of the window outside the columns and rows.
-fn stamp_outside(grid: &mut [u32], width: usize, height: usize, columns: Span, rows: Span)
-    requires width_bound { (width < 2 ^ 31) × (height < 2 ^ 31) × ((height + 1) * (width + 1) ≤ length grid.old) }
-    requires from_le_width { (columns.from ≤ width) × (rows.from ≤ height) }
-    ensures { Adds width height 4 (outside columns rows) grid.old grid.new }
+fn stamp_outside(grid: &mut [u32], frame: Frame, columns: Span, rows: Span)
+    requires framed { Framed frame grid.old }
+    requires from_le_size { (columns.from ≤ frame.width) × (rows.from ≤ frame.height) }
+    ensures { Adds frame.width frame.height 4 (outside columns rows) grid.old grid.new }
 {
+    let width = frame.width;
+    let height = frame.height;
     let stride = width + 1;
     grid::add_rect(grid, stride, 0, 0, columns.from, height);
     grid::add_rect(grid, stride, columns.to, 0, width, height);
@@ -126,7 +127,5 @@ pub fn stamp_map_edge(
 {
     let columns = inner(frame.left, frame.width, mover.left, mover.right, width);
     let rows = inner(frame.top, frame.height, mover.top, mover.bottom, height);
-    let w = frame.width;
-    let h = frame.height;
-    stamp_outside(grid, w, h, columns, rows);
+    stamp_outside(grid, frame, columns, rows);
 }

@@ -1,24 +1,21 @@
 -- Unwalkable cells: a run of cells stops a mover where one of them does, and cells that no mover in the window reaches stop none. Assumes nothing.
-use mathlib.Core.Path.{◌≡◌, sym, ap, subst, ◌∙◌}
-use mathlib.Core.Bool.{Bool, true, false, not, ◌&&◌, ◌||◌}
+use mathlib.Core.Path.{◌≡◌, ap}
+use mathlib.Core.Bool.{Bool, false, not, ◌&&◌, ◌||◌}
 use mathlib.Core.List.{List}
-use Prim.Native.Nat.{ℕ, ◌+◌, ◌-◌, ◌*◌, ◌/◌, ◌%◌, ◌≤◌, ◌<◌}
+use Prim.Native.Nat.{ℕ, ◌+◌, ◌-◌, ◌*◌, ◌/◌, ◌≤◌, ◌<◌}
 use native.Mathlib.Omega.{arith}
 use native.Mathlib.Decide.{dec_lt}
 use lib.Dec.{T}
-use lib.IntN.{pos}
-use lib.ListN.{get_or}
-use borrow.Author.Tests.{eq-eqb, ne_eqb}
-use Rattle.numbers.proofs.Integers.{sub_nat}
-use Rattle.numbers.proofs.Tests.{is_false, left_of}
+use lib.ListN.{get_or, length, take, drop}
+use Rattle.std.proofs.lemmas.Grind.{common_steps}
+use Rattle.std.proofs.lemmas.Bool.Decides.{nat_tests}
 use Rattle.model.specs.declared.CollisionBounds.{CollisionBounds}
 use Rattle.model.specs.Boxes.{meets, around}
 use Rattle.model.specs.Ground.{walkable}
-use Rattle.model.proofs.Meeting.{meeting, they_meet}
 use Rattle.stamps.specs.declared.Frame.{Frame}
 use Rattle.stamps.specs.Stamps.{stop, among, flat}
-use Rattle.stamps.proofs.Some.{Passing, both_ways, passing, passed, among_join, among_same}
-use Rattle.terrain.specs.Terrain.{cell_at, run_stops, row_stops, NextCell}
+use Rattle.stamps.proofs.Some.{Passing, passing, passed, among_join, among_same}
+use Rattle.terrain.specs.Terrain.{cell_at, run_stops, line_stops, row_stops, NextCell}
 
 -- the mover's box at (x, y) meets the rectangle from column l up to r and row t up to b
 pub record Reaches (m : CollisionBounds) (x y l t r b : ℕ) : Type 0 where
@@ -29,13 +26,12 @@ pub record Reaches (m : CollisionBounds) (x y l t r b : ℕ) : Type 0 where
 
 module _ (m : CollisionBounds) (x y l t r b : ℕ) where
   pub reaches : T (meets (around m x y) (flat l t r b)) → Reaches m x y l t r b
-  reaches h =
-      let k = meeting (around m x y) (flat l t r b) h in
-      record { before = omega (arith, sub_nat (pos x) (pos m.left)); after = omega arith; above = omega (arith, sub_nat (pos y) (pos m.top)); below = omega arith }
+  unfolding meets
+  reaches h = grind (arith, nat_tests)
 
   pub reached : Reaches m x y l t r b → T (meets (around m x y) (flat l t r b))
-  reached k =
-      they_meet (around m x y) (flat l t r b) (record { left = omega (arith, sub_nat (pos x) (pos m.left)); right = omega arith; top = omega (arith, sub_nat (pos y) (pos m.top)); bottom = omega arith })
+  unfolding meets
+  reached k = grind (arith, nat_tests)
 
 module _ (f : Frame) (m : CollisionBounds) (row from to : ℕ) (x y : ℕ) where
   abbrev X : ℕ
@@ -60,52 +56,29 @@ module _ (f : Frame) (m : CollisionBounds) (row from to : ℕ) (x y : ℕ) where
           record { number = (X - m.left) / 8; low = omega (arith, k.before); high = omega (arith, k.before); passes = at ((X - m.left) / 8) (omega (arith, k.before)) (omega (arith, k.before)) }
 
   whole : Passing from to stopped → Reaches m X Y (8 * from) (8 * row) (8 * to) (8 * row + 8)
-  whole p =
-      let k = reaches m X Y (8 * p.number) (8 * row) (8 * p.number + 8) (8 * row + 8) p.passes in
-      record { before = omega (arith, k, p); after = omega (arith, k, p); above = k.above; below = k.below }
+  whole p = grind (arith, reaches m X Y (8 * p.number) (8 * row) (8 * p.number + 8) (8 * row + 8) p.passes)
 
   -- a run of cells stops the mover where one of its cells does
   pub run_stops_as_flat : from < to → stop f m (flat (8 * from) (8 * row) (8 * to) (8 * row + 8)) x y ≡ run_stops f m row from to x y
-  run_stops_as_flat h =
-      both_ways (stop f m (flat (8 * from) (8 * row) (8 * to) (8 * row + 8)) x y) (run_stops f m row from to x y)
-      (λ t. passed stopped (some_cell h (reaches m X Y (8 * from) (8 * row) (8 * to) (8 * row + 8) t)))
-      (λ t. reached m X Y (8 * from) (8 * row) (8 * to) (8 * row + 8) (whole (passing stopped from to t)))
+  run_stops_as_flat h = grind (arith, passed stopped, some_cell h, reaches m X Y (8 * from) (8 * row) (8 * to) (8 * row + 8), reached m X Y (8 * from) (8 * row) (8 * to) (8 * row + 8), whole, passing stopped from to)
 
 -- From a column on, the cells up to `from` are walkable, and those from there up to `to` are not: what the row stops up to `to` is what it stops up to the column, and the run.
-module _ (f : Frame) (m : CollisionBounds) (cells : List ℕ) (width row first column from to end : ℕ) (gap : NextCell cells (row * width + column) (row * width + end) 0 (row * width + from)) (run : NextCell cells (row * width + from) (row * width + end) 1 (row * width + to)) where
-  abbrev bit : ℕ → ℕ
-  bit c = get_or cells (row * width + c) 0 / 16 % 2
-
-  clear : (c : ℕ) → column ≤ c → c < from → walkable (get_or cells (row * width + c) 0) ≡ true
-  clear c l u = eq-eqb (bit c) 1 (omega (arith, gap.before (row * width + c) (omega arith) (omega arith)))
-
-  filled : (c : ℕ) → from ≤ c → c < to → walkable (get_or cells (row * width + c) 0) ≡ false
-  filled c l u = ne_eqb (bit c) 1 (run.before (row * width + c) (omega arith) (omega arith))
-
-  pub goes_on : column < end → column < to
-  goes_on h = pick (dec_lt column to)
+module _ (f : Frame) (m : CollisionBounds) (line : List ℕ) (row first column from to end : ℕ) (gap : NextCell line column end 0 from) (run : NextCell line from end 1 to) where
+  pub next_run : first ≤ column → (x y : ℕ) → x < f.width → y < f.height → line_stops f m line row first column x y || run_stops f m row from to x y ≡ line_stops f m line row first to x y
+  next_run h x y hx hy =
+      let test : ℕ → Bool = λ c. not (walkable (get_or line c 0)) && stop f m (cell_at c row) x y in
+      let before : (c : ℕ) → column ≤ c → c < from → test c ≡ false = λ c l u. grind (arith, nat_tests, gap.before c l u) in
+      let within : (c : ℕ) → from ≤ c → c < to → test c ≡ stop f m (cell_at c row) x y = λ c l u. grind (arith, nat_tests, run.before c l u) in
+      grind (arith, among_join test first column to, among_join test column from to, among_same test (λ c. false) column from before, among_same test (λ c. stop f m (cell_at c row) x y) from to within, nothing column from)
     where
-      pick : Dec (column < to) → column < to
-      pick (yes l) = l
-      pick (no l) =
-          let e : from ≡ to = omega (arith, gap.from, run.from) in
-          let u : bit from ≡ 0 = gap.found (omega (arith, gap.from, run.from)) in
-          let v : bit to ≡ 1 = run.found (omega (arith, gap.from, run.from)) in
-          let w : bit from ≡ bit to = ap bit e in
-          absurd (omega arith)
+      nothing : (a b : ℕ) → among a b (λ c. false) ≡ false
+      nothing a b = grind (arith, passing (λ c. false) a b)
 
-  pub next_run : first ≤ column → (x y : ℕ) → row_stops f m cells width row first column x y || run_stops f m row from to x y ≡ row_stops f m cells width row first to x y
-  next_run h x y =
-      let test : ℕ → Bool = λ c. not (walkable (get_or cells (row * width + c) 0)) && stop f m (cell_at c row) x y in
-      let nothing : among column from test ≡ false = is_false (among column from test) (λ t. none (passing test column from t)) in
-      let taken : among from to test ≡ run_stops f m row from to x y =
-      among_same test (λ c. stop f m (cell_at c row) x y) from to (λ c l u. ap (λ (t : Bool). not t && stop f m (cell_at c row) x y) (filled c l u)) in
-      sym
-      (among_join test first column to h (omega (arith, gap.from, run.from))
-      ∙ ap (λ (t : Bool). among first column test || t)
-      (among_join test column from to (omega (arith, gap.from)) (omega (arith, run.from)) ∙ ap (λ (t : Bool). t || among from to test) nothing ∙ taken))
-    where
-      none : Passing column from (λ c. not (walkable (get_or cells (row * width + c) 0)) && stop f m (cell_at c row) x y) → ⊥
-      none p =
-          left_of false (stop f m (cell_at p.number row) x y)
-          (subst (λ (t : Bool). T (not t && stop f m (cell_at p.number row) x y)) (clear p.number p.low p.high) p.passes)
+-- a row's cells up to `to`, cut out of the map's
+pub line_in_row : (f : Frame) (m : CollisionBounds) (cells : List ℕ) (width row from to n : ℕ) → n ≡ to → row * width + to ≤ length cells → (x y : ℕ) → x < f.width → y < f.height
+    → line_stops f m (take n (drop (row * width) cells)) row from (length (take n (drop (row * width) cells))) x y ≡ row_stops f m cells width row from to x y
+line_in_row f m cells width row from to n e room x y hx hy =
+    let line : List ℕ = take n (drop (row * width) cells) in
+    let long : length line ≡ to = grind (arith, common_steps) in
+    let at : (k : ℕ) → k < to → get_or line k 0 ≡ get_or cells (row * width + k) 0 = λ k h. grind (arith, common_steps) in
+    rw long (among_same _ _ from to (λ k l u. ap (λ (c : ℕ). not (walkable c) && stop f m (cell_at k row) x y) (at k u)))

@@ -1,14 +1,11 @@
 -- The unwalkable cells within reach of the window stop the mover where any unwalkable cell of the map does. Assumes nothing.
-use mathlib.Core.Path.{◌≡◌, sym, ap, subst, ◌∙◌}
+use mathlib.Core.Path.{◌≡◌, sym, ◌∙◌}
 use mathlib.Core.Bool.{Bool, not, ◌&&◌}
 use mathlib.Core.List.{List, map}
 use Prim.Native.Nat.{ℕ, ◌+◌, ◌*◌, ◌/◌, ◌%◌, ◌≤◌, ◌<◌}
-use native.Mathlib.Nat.{mul_comm, mod-lt, div-add-mod', mul-le-mul_right}
+use native.Mathlib.Nat.{div-add-mod'}
 use native.Mathlib.Omega.{arith}
-use native.Mathlib.Decide.{dec_lt}
-use lib.Dec.{T}
 use lib.ListN.{length, get_or}
-use Rattle.numbers.proofs.Places.{row_below, one_place}
 use Rattle.numbers.proofs.Tests.{right_of}
 use Rattle.model.specs.declared.CollisionBounds.{CollisionBounds}
 use Rattle.model.specs.Lists.{places}
@@ -17,23 +14,17 @@ use Rattle.model.specs.Ground.{walkable}
 use Rattle.stamps.specs.declared.Frame.{Frame}
 use Rattle.stamps.specs.declared.Span.{Span}
 use Rattle.stamps.specs.Stamps.{stop, stops, among}
-use Rattle.stamps.proofs.Some.{Passing, both_ways, passing, passed, any_map}
+use Rattle.stamps.proofs.Some.{Passing, passing, passed, among_alike, any_map}
 use Rattle.terrain.specs.Terrain.{cell_at, row_stops, reach_of}
 use Rattle.terrain.proofs.Cells.{reaches}
 use Rattle.terrain.proofs.Places.{any_places}
 
 -- column and row of a cell
 column_row : (width c r : ℕ) → c < width → ((r * width + c) % width ≡ c) × ((r * width + c) / width ≡ r)
-column_row width c r h =
-    let i = r * width + c in
-    one_place width (i % width) (i / width) c r (mod-lt i (omega arith)) h (div-add-mod' i width)
+column_row width c r h = grind arith
 
 row_of : (width height i : ℕ) → i < width * height → i / width < height
-row_of width height i h = pick (dec_lt (i / width) height)
-  where
-    pick : Dec (i / width < height) → i / width < height
-    pick (yes l) = l
-    pick (no l) = let k : height ≤ i / width = omega arith in absurd (omega (arith, mul-le-mul_right width k, mul_comm width height, div-add-mod' i width))
+row_of width height i h = grind arith
 
 -- a cell that the mover reaches from a center of the window is one of those looked at, on one axis
 within_reach : (start size before after cells x c : ℕ) → x < size → c < cells → start + x < 8 * c + 8 + before → 8 * c ≤ start + x + after
@@ -68,9 +59,8 @@ module _ (f : Frame) (m : CollisionBounds) (cells : List ℕ) (width height : �
         record {
           number = r * width + c;
           low = omega arith;
-          high = omega (arith, row_below width c r height hc (omega (arith, p.high)), mul_comm width height, size);
-          passes = subst (λ (b : ℕ). T (not (walkable (get_or cells (r * width + c) 0)) && stop f m (cell_at ((r * width + c) % width) b) x y)) (sym e.1)
-              (subst (λ (a : ℕ). T (not (walkable (get_or cells (r * width + c) 0)) && stop f m (cell_at a r) x y)) (sym e.0) q.passes);
+          high = grind (arith, p.high);
+          passes = rw (e.1, e.0) q.passes;
         }
 
     back : Passing 0 (length cells) numbered → Passing rows.from rows.to row
@@ -78,9 +68,8 @@ module _ (f : Frame) (m : CollisionBounds) (cells : List ℕ) (width height : �
         let i = p.number in
         let c = i % width in
         let r = i / width in
-        let few : i < width * height = omega (arith, p.high, size) in
-        let hr : r < height = row_of width height i few in
-        let hc : c < width = mod-lt i (some_width width height i few) in
+        let hr : r < height = row_of width height i (omega (arith, p.high, size)) in
+        let hc : c < width = grind arith in
         let k = reaches m (f.left + x) (f.top + y) (8 * c) (8 * r) (8 * c + 8) (8 * r + 8) (right_of (not (walkable (get_or cells i 0))) (stop f m (cell_at c r) x y) p.passes) in
         let h = within_reach f.left f.width m.left m.right width x c hx hc k.before k.after in
         let v = within_reach f.top f.height m.top m.bottom height y r hy hr k.above k.below in
@@ -92,21 +81,18 @@ module _ (f : Frame) (m : CollisionBounds) (cells : List ℕ) (width height : �
             number = c;
             low = h.0;
             high = h.1;
-            passes = subst (λ (n : ℕ). T (not (walkable (get_or cells n 0)) && stop f m (cell_at c r) x y)) (sym (div-add-mod' i width)) p.passes;
+            passes = rw (div-add-mod' i width) p.passes;
           });
         }
-      where
-        some_width : (w h i : ℕ) → i < w * h → 0 < w
-        some_width w h i l = pick (dec_lt 0 w)
-          where
-            pick : Dec (0 < w) → 0 < w
-            pick (yes k) = k
-            pick (no k) = let z : w ≡ 0 = omega arith in absurd (omega (arith, ap (λ (n : ℕ). n * h) z))
 
     pub terrain_stops : among rows.from rows.to row ≡ stops f m (map (cell_box width) (places (λ i c. not (walkable c)) cells)) x y
     terrain_stops =
-        both_ways (among rows.from rows.to row) (among 0 (length cells) numbered)
-        (λ t. passed numbered (out (passing row rows.from rows.to t))) (λ t. passed row (back (passing numbered 0 (length cells) t)))
+        among_alike row numbered rows.from rows.to 0 (length cells) out back
         ∙ sym
         (any_map (meets (around m (f.left + x) (f.top + y))) (cell_box width) (places (λ i c. not (walkable c)) cells)
         ∙ any_places (λ c. not (walkable c)) 0 (λ i. stop f m (cell_box width i) x y) cells)
+
+  -- the same, of the spans and the row that a loop has come to
+  pub reached_rows : {c r : Span} {end : ℕ} → c ≡ columns → r ≡ rows → end ≡ r.to → (x y : ℕ) → x < f.width → y < f.height
+      → among r.from end (λ n. row_stops f m cells width n c.from c.to x y) ≡ stops f m (map (cell_box width) (places (λ i c. not (walkable c)) cells)) x y
+  reached_rows p q e x y hx hy = rw (e, q, p) (terrain_stops x y hx hy)

@@ -20,6 +20,10 @@ run_stops f m r a b x y = among a b (λ c. stop f m (cell_at c r) x y)
 abbrev pub row_stops : Frame → CollisionBounds → List ℕ → ℕ → ℕ → ℕ → ℕ → ℕ → ℕ → Bool
 row_stops f m cells width r a b x y = among a b (λ c. not (walkable (get_or cells (r * width + c) 0)) && stop f m (cell_at c r) x y)
 
+-- the same, of the cells of one row
+abbrev pub line_stops : Frame → CollisionBounds → List ℕ → ℕ → ℕ → ℕ → ℕ → ℕ → Bool
+line_stops f m line r a b x y = among a b (λ c. not (walkable (get_or line c 0)) && stop f m (cell_at c r) x y)
+
 -- r is the first place from at on whose cell's walkable bit is as wanted, or end
 pub record NextCell (cells : List ℕ) (at end wanted r : ℕ) : Type 0 where
   pub from : at ≤ r

@@ -2,27 +2,25 @@
 // run of them in one row is stamped as one rectangle.
 #![tactic(auto)]
 
-ghost use Rattle.std.specs.Prelude.{◌≡◌, ◌+◌, ◌*◌, ◌^◌, ◌<◌, ◌≤◌, length};
+ghost use Rattle.std.specs.Prelude.{◌≡◌, ◌*◌, ◌^◌, ◌<◌, ◌≤◌, length};
 ghost use Rattle.model.specs.Refusal.{caps};
 ghost use Rattle.stamps.specs.Stamps.{Framed, Adds, stops};
-ghost use Rattle.terrain.specs.Terrain.{NextCell, run_stops, row_stops, reach_of, unwalkable};
+ghost use Rattle.terrain.specs.Terrain.{NextCell, run_stops, line_stops, reach_of, unwalkable};
 
 use model::CollisionBounds;
 use stamps::{CARRY, Frame, PIXELS_PER_WALK_CELL, Raised, Span};
 
-// The first place from at on whose cell's walkable bit is as wanted; end where there is none.
-fn next_cell(cells: &[u8], at: usize, end: usize, wanted: u8) -> usize
-    requires { (at ≤ end) × (end ≤ length cells.now) }
-    ensures { NextCell cells.now at end wanted result }
+// The first place from at on whose cell's walkable bit is as wanted; the cells' end where there is none.
+fn next_cell(cells: &[u8], at: usize, wanted: u8) -> usize
+    requires { at ≤ length cells.now }
+    ensures { NextCell cells.now at (length cells.now) wanted result }
 {
-    let mut i = at;
-    while i < end {
+    for i in at..cells.len() {
         if cells[i] / 16 % 2 == wanted {
             return i;
         }
-        i += 1;
     }
-    i
+    cells.len()
 }
 
 // Stamps the cells from column from up to to of a row, as one rectangle: what it stops is what one of its cells stops.
@@ -51,26 +49,23 @@ fn stamp_run(
     stamps::stamp_expanded(grid, frame, mover, run);
 }
 
-// Stamps the unwalkable cells from column first up to end of a row, run by run.
+// Stamps the unwalkable cells of a row from column first on, run by run.
 fn stamp_row(
     grid: &mut [u32],
     frame: Frame,
     mover: CollisionBounds,
     cells: &[u8],
-    width: usize,
     row: usize,
     first: usize,
-    end: usize,
 )
     requires framed { Framed frame grid.old }
-    requires row_bound { (row < 2 ^ 32) × (first ≤ end) × (end ≤ width) × (width < 2 ^ 32) × ((row + 1) * width ≤ length cells.now) }
-    ensures { Adds frame.width frame.height width (row_stops frame mover cells.now width row first end) grid.old grid.new }
+    requires row_bound { (row < 2 ^ 32) × (first ≤ length cells.now) × (length cells.now < 2 ^ 32) }
+    ensures { Adds frame.width frame.height (length cells.now) (line_stops frame mover cells.now row first (length cells.now)) grid.old grid.new }
 {
-    let start = row * width;
     let mut column = first;
-    while column < end {
-        let from = next_cell(cells, start + column, start + end, 0) - start;
-        let to = next_cell(cells, start + from, start + end, 1) - start;
+    while column < cells.len() {
+        let from = next_cell(cells, column, 0);
+        let to = next_cell(cells, from, 1);
         stamp_run(grid, frame, mover, row, from, to);
         column = to;
     }
@@ -81,11 +76,11 @@ fn reach(start: u64, size: usize, before: u32, after: u32, cells: usize) -> Span
     requires { (start < 2 ^ 62) × (size < 2 ^ 31) }
     ensures { result ≡ reach_of start size before after cells }
 {
-    let first = numbers::minus(start, before as u64) / PIXELS_PER_WALK_CELL;
+    let first = start.saturating_sub(before as u64) / PIXELS_PER_WALK_CELL;
     let past = (start + size as u64 + after as u64 + 7) / PIXELS_PER_WALK_CELL;
-    let to = numbers::least(past, cells as u64);
+    let to = past.min(cells as u64);
     Span {
-        from: numbers::least(first, to) as usize,
+        from: first.min(to) as usize,
         to: to as usize,
     }
 }
@@ -105,19 +100,9 @@ pub fn stamp_terrain_blockers(
 {
     let columns = reach(frame.left, frame.width, mover.left, mover.right, width);
     let rows = reach(frame.top, frame.height, mover.top, mover.bottom, height);
-    let end = rows.to;
-    let mut row = rows.from;
-    while row < end {
-        stamp_row(
-            grid,
-            frame,
-            mover,
-            cells,
-            width,
-            row,
-            columns.from,
-            columns.to,
-        );
-        row += 1;
+    for row in rows.from..rows.to {
+        let start = row * width;
+        let reached = &cells[start..start + columns.to];
+        stamp_row(grid, frame, mover, reached, row, columns.from);
     }
 }

@@ -25,9 +25,6 @@ then {a} {b} {c} {t} {u} {i} {j} {k} p q = record {
 pub said : {a b t u : List ℕ} {i k : ℕ} → t ≡ u → Wrote a i t b k → Wrote a i u b k
 said {a} {b} {t} {u} {i} {k} e w = subst (λ (l : List ℕ). Wrote a i l b k) e w
 
-pub four_lengths : (t u v w : List ℕ) → length (t ++ (u ++ (v ++ w))) ≡ length t + (length u + (length v + length w))
-four_lengths t u v w = simp length-append
-
 -- whoever puts the rest has put the whole
 pub record Going (before : List ℕ) (at : ℕ) (whole rest after : List ℕ) (r : ℕ) : Type 0 where
   pub left : r + length rest ≡ at + length whole

@@ -1,7 +1,8 @@
 // Text and numbers in a buffer that the caller lends. Each function puts its text behind the first `at` bytes and answers where the text ends.
 #![tactic(auto)]
 
-ghost use Rattle.std.specs.Prelude.{◌++◌};
+ghost use Rattle.std.specs.Prelude.{List, ◌++◌, ℕ};
+ghost use mathlib.Core.List.{flat_map};
 ghost use Rattle.model.specs.Report.{bytes, decimal};
 ghost use Rattle.text.specs.Writing.{Fits, Wrote};
 
@@ -10,12 +11,9 @@ pub fn put(out: &mut [u8], at: usize, text: &[u8]) -> usize
     requires { Fits out.old at text.now }
     ensures { Wrote out.old at text.now out.new result }
 {
-    let mut k = 0;
-    while k < text.len() {
-        out[at + k] = text[k];
-        k += 1;
-    }
-    at + k
+    let end = at + text.len();
+    out[at..end].copy_from_slice(text);
+    end
 }
 
 // The decimal digits of n.
@@ -44,4 +42,25 @@ pub fn put_ending(out: &mut [u8], at: usize, label: &[u8], n: u64) -> usize
 {
     let next = put_labelled(out, at, label, n);
     put(out, next, b"\n")
+}
+
+// A line that tells of a word.
+pub trait Line {
+    ghost text: { ℕ → List ℕ };
+
+    fn put(out: &mut [u8], at: usize, word: u32) -> usize
+        requires { Fits out.old at (text word) }
+        ensures { Wrote out.old at (text word) out.new result };
+}
+
+// A line for each word.
+pub fn put_lines<L: Line>(out: &mut [u8], at: usize, words: &[u32]) -> usize
+    requires { Fits out.old at (flat_map L.text words.now) }
+    ensures { Wrote out.old at (flat_map L.text words.now) out.new result }
+{
+    let mut end = at;
+    for word in words {
+        end = L::put(out, end, *word);
+    }
+    end
 }

@@ -1,30 +1,19 @@
 // Signed numbers and boxes as text in a buffer that the caller lends. Each function puts its text behind the first `at` bytes and answers where the text ends.
 #![tactic(auto)]
 
-ghost use Rattle.std.specs.Prelude.{◌≡◌, ◌++◌, nat_abs};
+ghost use Rattle.std.specs.Prelude.{◌++◌};
 ghost use Rattle.model.specs.Report.{spaced, box_text};
 ghost use Rattle.text.specs.Writing.{Fits, Wrote};
 
 use model::PixelRect;
-
-// The magnitude of n. For n below 0 it is one more than what `!n` gives.
-fn magnitude(n: i32) -> u64
-    ensures { result ≡ nat_abs n }
-{
-    if n < 0 { (!n) as u64 + 1 } else { n as u64 }
-}
 
 // A space, and the number.
 fn put_spaced(out: &mut [u8], at: usize, n: i32) -> usize
     requires { Fits out.old at (spaced n) }
     ensures { Wrote out.old at (spaced n) out.new result }
 {
-    let m = magnitude(n);
-    if n < 0 {
-        text::put_labelled(out, at, b" -", m)
-    } else {
-        text::put_labelled(out, at, b" ", m)
-    }
+    let label: &[u8] = if n < 0 { b" -" } else { b" " };
+    text::put_labelled(out, at, label, n.unsigned_abs() as u64)
 }
 
 // " LEFT TOP RIGHT BOTTOM"

@@ -4,7 +4,7 @@ use mathlib.Core.Bool.{Bool}
 use mathlib.Core.List.{List, map}
 use Prim.Native.Nat.{ℕ}
 use lib.ListN.{take, drop}
-use Rattle.model.specs.declared.Outcome.TheVariants.{Accepted}
+use Rattle.std.specs.Prelude.{Ok}
 use Rattle.model.specs.declared.WallQuery.{WallQuery}
 use Rattle.model.specs.Ground.{Ground, after, built, passable}
 use Rattle.model.specs.Steps.{point_of}
@@ -19,7 +19,7 @@ use Rattle.route_list.specs.Reading.{ByMarks}
 pub list_tested : (g : Ground) (q : WallQuery) (words : List ℕ) (was : TestAreas) {mid : TestAreas} {marks : List ℕ} {r : Bool} → Valid g q → Centers g q.window q.mover q.plan was mid
     → ByMarks (take (center_room q.window) (drop (center_room q.window) mid.marks)) (frame_of q.window) (λ free. is_passage free q.start q.end (map point_of words)) r
     → marks ≡ cleared (mark_room q.window) mid.marks
-    → TestLeaves g q words was (areas mid.base mid.plan marks) Accepted r
+    → TestLeaves g q words was (areas mid.base mid.plan marks) (Ok r)
 list_tested g q words was v c told z =
     let w = q.window in
     let boxes = after g (built q.plan) in

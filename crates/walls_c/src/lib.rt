@@ -7,7 +7,7 @@ ghost use Rattle.model.specs.Check.{Answers};
 ghost use Rattle.model.specs.Words.{query_of, CheckSaid, TestSaid, ReadSaid, PackedSaid};
 ghost use Rattle.walls_c.specs.Held.{Held};
 
-use model::{Outcome, PackedQuery, WallReply};
+use model::{Ground, PackedQuery, WallCheck, WallError};
 
 // Checks the query that the words say, with this many buildings, in the areas 2 to 8.
 #[unsafe(no_mangle)]
@@ -30,8 +30,14 @@ pub extern "C" fn walls_c_check(
     ensures { CheckSaid (ground width height cells.now obstacles.now) (query_of query.now buildings) (record { issues = issues.old; base = base.old; plan = planned.old; marks = marks.old; parents = parents.old; queue = queue.old; route = route.old }) (record { issues = issues.new; base = base.new; plan = planned.new; marks = marks.new; parents = parents.new; queue = queue.new; route = route.new }) answer.old answer.new result }
 {
     let q = query_words::query_of(query, buildings);
+    let ground = Ground {
+        width,
+        height,
+        cells,
+        words: obstacles,
+    };
     let reply = walls::check_wall(
-        width, height, cells, obstacles, q, issues, base, planned, marks, parents, queue, route,
+        ground, q, issues, base, planned, marks, parents, queue, route,
     );
     words::put_check(answer, reply)
 }
@@ -68,9 +74,13 @@ pub extern "C" fn walls_c_test_route(
     ensures { TestSaid (ground width height cells.now obstacles.now) (query_of query.now buildings) list.now (record { base = base.old; plan = planned.old; marks = marks.old }) (record { base = base.new; plan = planned.new; marks = marks.new }) answer.old answer.new result }
 {
     let q = query_words::query_of(query, buildings);
-    let reply = walls::test_route(
-        width, height, cells, obstacles, q, list, base, planned, marks,
-    );
+    let ground = Ground {
+        width,
+        height,
+        cells,
+        words: obstacles,
+    };
+    let reply = walls::test_route(ground, q, list, base, planned, marks);
     words::put_test(answer, reply)
 }
 
@@ -86,26 +96,20 @@ fn check_read(
     parents: &mut [u32],
     queue: &mut [u32],
     route: &mut [u32],
-) -> WallReply
+) -> Result<WallCheck, WallError>
     requires { Held p cells.now words.now }
     ensures { Answers (ground p.width p.height (take (p.width * p.height) cells.now) (take (4 * p.obstacles) words.now)) p.query (record { issues = issues.old; base = base.old; plan = planned.old; marks = marks.old; parents = parents.old; queue = queue.old; route = route.old }) (record { issues = issues.new; base = base.new; plan = planned.new; marks = marks.new; parents = parents.new; queue = queue.new; route = route.new }) result }
 {
     let n = p.width as usize * p.height as usize;
     let k = 4 * p.obstacles;
-    let query = p.query;
+    let ground = Ground {
+        width: p.width,
+        height: p.height,
+        cells: &cells[..n],
+        words: &words[..k],
+    };
     walls::check_wall(
-        p.width,
-        p.height,
-        &cells[..n],
-        &words[..k],
-        query,
-        issues,
-        base,
-        planned,
-        marks,
-        parents,
-        queue,
-        route,
+        ground, p.query, issues, base, planned, marks, parents, queue, route,
     )
 }
 
@@ -126,12 +130,10 @@ pub extern "C" fn walls_c_check_packed(
 ) -> u64
     ensures { PackedSaid bytes.now (record { cells = cells.old; words = obstacles.old }) (record { cells = cells.new; words = obstacles.new }) (record { issues = issues.old; base = base.old; plan = planned.old; marks = marks.old; parents = parents.old; queue = queue.old; route = route.old }) (record { issues = issues.new; base = base.new; plan = planned.new; marks = marks.new; parents = parents.new; queue = queue.new; route = route.new }) answer.old answer.new result }
 {
-    let read = packed::read_packed(bytes, cells, obstacles);
-    let told = read.outcome;
-    let Outcome::Accepted = told else {
-        return words::put_check(answer, walls::refused(told));
+    let p = match packed::read_packed(bytes, cells, obstacles) {
+        Ok(p) => p,
+        Err(e) => return words::put_check(answer, Err(e)),
     };
-    let p = read.packed;
     let reply = check_read(
         p, cells, obstacles, issues, base, planned, marks, parents, queue, route,
     );

@@ -1,15 +1,15 @@
--- Following the parents back: what the two loops over them keep. Assumes nothing.
+-- Following the parents back: what the loop over them keeps. Assumes nothing.
 use mathlib.Core.Path.{◌≡◌, refl, sym, ap, ◌∙◌}
-use mathlib.Core.List.{List, [], ◌∷◌, ◌++◌, map, map-append, append_assoc, append-nil}
+use mathlib.Core.List.{List, [], ◌∷◌, ◌++◌, map, map-append, append_assoc, append-nil, reverse, reverse-cons, reverse-append}
 use Prim.Native.Nat.{ℕ, ◌+◌, ◌-◌, ◌<◌, ◌≤◌}
 use native.Mathlib.Omega.{arith}
-use lib.ListN.{length, get_or, set, take, drop, length-append, length-map}
+use lib.ListN.{length, get_or, set, take, drop, length-append, length-map, length-reverse}
 use lib.Seq.{take_at, drop_at}
-use Rattle.numbers.proofs.Lists.{store_next, front_length, some_in}
+use Rattle.numbers.proofs.Lists.{store_next, some_in}
 use Rattle.model.specs.Steps.{point_word}
-use Rattle.search.specs.Places.{spot}
+use Rattle.stamps.specs.declared.Frame.{Frame}
 use Rattle.search.specs.Search.{Trail, begin, back}
-use Rattle.way_back.specs.Ways.{Laid, Written, turned}
+use Rattle.way_back.specs.Ways.{spot, Laid, Written}
 
 module _ {parents : List ℕ} {s : ℕ} where
   pub trail_some : {q : ℕ} {ps : List ℕ} → Trail parents s q ps → 1 ≤ length ps
@@ -41,74 +41,62 @@ trail_back : {parents : List ℕ} {s q : ℕ} {qs : List ℕ} → Trail parents 
 trail_back begin n = absurd (n refl)
 trail_back {parents} (back {p = p} {q = q} {ps = ps} t m l) n = record { p = p; ps = ps; trail = t; link = l; last = refl; within = some_in parents q (omega (arith, l)) }
 
--- ---- lists turned round
-turned_next : (l : List ℕ) (x : ℕ) → turned (l ++ (x ∷ [])) ≡ x ∷ turned l
-turned_next [] x = refl
-turned_next (y ∷ l) x = ap (λ (r : List ℕ). r ++ (y ∷ [])) (turned_next l x)
-
-pub turned_length : (l : List ℕ) → length (turned l) ≡ length l
-turned_length [] = refl
-turned_length (x ∷ l) = length-append (turned l) (x ∷ []) ∙ omega (arith, turned_length l)
-
-turned_map : (f : ℕ → ℕ) (l : List ℕ) → turned (map f l) ≡ map f (turned l)
-turned_map f [] = refl
-turned_map f (x ∷ l) = ap (λ (r : List ℕ). r ++ (f x ∷ [])) (turned_map f l) ∙ rw map-append
+reverse_map : (f : ℕ → ℕ) (l : List ℕ) → reverse (map f l) ≡ map f (reverse l)
+reverse_map f [] = refl
+reverse_map f (x ∷ l) = rw (reverse-cons (f x) (map f l), reverse_map f l, reverse-cons x l, map-append) refl
 
 -- ---- words written from the front
-module _ (left top w : ℕ) where
+module _ (f : Frame) where
   -- the words of places
   abbrev words : List ℕ → List ℕ
-  words ps = map (λ q. point_word (spot left top w q)) ps
+  words ps = map (λ q. point_word (spot f q)) ps
 
   -- n of them, and then what stood there before
   module _ (laid before : List ℕ) (n : ℕ) (count : length laid ≡ n) where
     words_length : length (words laid) ≡ n
     words_length = simp length-map count
 
-    words_next : (v : ℕ) → n < length before → set (words laid ++ drop n before) n (point_word (spot left top w v)) ≡ words (laid ++ (v ∷ [])) ++ drop (n + 1) before
-    words_next v h = rw map-append (store_next (words laid) before n (point_word (spot left top w v)) words_length h)
+    words_next : (v : ℕ) → n < length before → set (words laid ++ drop n before) n (point_word (spot f v)) ≡ words (laid ++ (v ∷ [])) ++ drop (n + 1) before
+    words_next v h = rw map-append (store_next (words laid) before n (point_word (spot f v)) words_length h)
 
-    words_turned : turned (take n (words laid ++ drop n before)) ++ drop n (words laid ++ drop n before) ≡ words (turned laid) ++ drop n before
-    words_turned = rw (take_at (words laid) (drop n before) n words_length, drop_at (words laid) (drop n before) n words_length, turned_map (λ q. point_word (spot left top w q)) laid)
+    words_turned : reverse (take n (words laid ++ drop n before)) ++ drop n (words laid ++ drop n before) ≡ words (reverse laid) ++ drop n before
+    words_turned = rw (take_at (words laid) (drop n before) n words_length, drop_at (words laid) (drop n before) n words_length, reverse_map (λ q. point_word (spot f q)) laid)
 
 -- the words of the places after p are written, those of e first
-pub record Laying (parents : List ℕ) (s e left top w : ℕ) (before out : List ℕ) (n p : ℕ) : Type 0 where
+pub record Laying (parents : List ℕ) (s e : ℕ) (f : Frame) (before out : List ℕ) (n p : ℕ) : Type 0 where
   pub ahead : List ℕ
   pub ahead_trail : Trail parents s p ahead
   pub laid : List ℕ
   pub count : length laid ≡ n
-  pub trail : Trail parents s e (ahead ++ turned laid)
+  pub trail : Trail parents s e (ahead ++ reverse laid)
   pub short : length ahead + n ≤ length parents
-  pub written : out ≡ words left top w laid ++ drop n before
+  pub written : out ≡ words f laid ++ drop n before
   pub room : length parents ≤ length before
 
-pub laying_begun : {parents : List ℕ} {s e left top w : ℕ} (out : List ℕ) {places : List ℕ} → Trail parents s e places → length places ≤ length parents → length parents ≤ length out → Laying parents s e left top w out out 0 e
+pub laying_begun : {parents : List ℕ} {s e : ℕ} {f : Frame} (out : List ℕ) {places : List ℕ} → Trail parents s e places → length places ≤ length parents → length parents ≤ length out → Laying parents s e f out out 0 e
 laying_begun out {places} t short room = record { ahead = places; ahead_trail = t; laid = []; count = refl; trail = rw append-nil t; short = omega arith; written = refl; room = room }
 
-module _ {parents : List ℕ} {s e left top w n p : ℕ} {before out : List ℕ} (L : Laying parents s e left top w before out n p) where
+module _ {parents : List ℕ} {s e n p : ℕ} {f : Frame} {before out : List ℕ} (L : Laying parents s e f before out n p) where
   pub laying_room : n < length parents
   laying_room = omega (arith, L.short, trail_some L.ahead_trail)
 
-  pub laying_long : length out ≡ length before
-  laying_long = ap length L.written ∙ front_length (words left top w L.laid) before n (words_length left top w L.laid before n L.count) (omega (arith, laying_room, L.room))
-
   -- one word more
-  stored : (v : ℕ) → set out n (point_word (spot left top w v)) ≡ words left top w (L.laid ++ (v ∷ [])) ++ drop (n + 1) before
-  stored v = ap (λ (l : List ℕ). set l n (point_word (spot left top w v))) L.written ∙ words_next left top w L.laid before n L.count v (omega (arith, laying_room, L.room))
+  stored : (v : ℕ) → set out n (point_word (spot f v)) ≡ words f (L.laid ++ (v ∷ [])) ++ drop (n + 1) before
+  stored v = ap (λ (l : List ℕ). set l n (point_word (spot f v))) L.written ∙ words_next f L.laid before n L.count v (omega (arith, laying_room, L.room))
 
   one_more : (v : ℕ) → length (L.laid ++ (v ∷ [])) ≡ n + 1
   one_more v = simp length-append (omega (arith, L.count))
 
-  pub laid_all : p ≡ s → Laid parents s e left top w (n + 1) before (set out n (point_word (spot left top w s)))
+  pub laid_all : p ≡ s → Laid parents s e f (n + 1) before (set out n (point_word (spot f s)))
   laid_all h =
       let one : L.ahead ≡ s ∷ [] = trail_one (rw h at L.ahead_trail) begin in
-      record { laid = L.laid ++ (s ∷ []); trail = rw (turned_next L.laid s) (rw one at L.trail); count = one_more s; words = stored s }
+      record { laid = L.laid ++ (s ∷ []); trail = rw (reverse-append L.laid (s ∷ [])) (rw one at L.trail); count = one_more s; words = stored s }
 
   module _ (other : p ≡ s → ⊥) where
     pub laying_more : (p < length parents) × (1 ≤ get_or parents p 0)
     laying_more = let b = trail_back L.ahead_trail other in (b.within, omega (arith, b.link))
 
-    pub laying_next : Laying parents s e left top w before (set out n (point_word (spot left top w p))) (n + 1) (get_or parents p 0 - 1)
+    pub laying_next : Laying parents s e f before (set out n (point_word (spot f p))) (n + 1) (get_or parents p 0 - 1)
     laying_next =
         let b = trail_back L.ahead_trail other in
         let q : b.p ≡ get_or parents p 0 - 1 = omega (arith, b.link) in
@@ -117,21 +105,17 @@ module _ {parents : List ℕ} {s e left top w n p : ℕ} {before out : List ℕ}
           ahead_trail = rw q at b.trail;
           laid = L.laid ++ (p ∷ []);
           count = one_more p;
-          trail = rw (turned_next L.laid p) (rw (b.last, append_assoc b.ps (p ∷ []) (turned L.laid)) at L.trail);
+          trail = rw (reverse-append L.laid (p ∷ [])) (rw (b.last, append_assoc b.ps (p ∷ []) (reverse L.laid)) at L.trail);
           short = omega (arith, L.short, simp length-append at (ap length b.last));
           written = stored p;
           room = L.room;
         }
 
 -- ---- what is laid and then turned round is the route
-module _ {parents : List ℕ} {s e left top w n : ℕ} {before mid : List ℕ} (L : Laid parents s e left top w n before mid) where
-  pub turned_written : {after : List ℕ} → after ≡ turned (take n mid) ++ drop n mid → Written parents s e left top w n before after
-  turned_written h = record {
-    places = turned L.laid;
-    trail = L.trail;
-    count = turned_length L.laid ∙ L.count;
-    words = h ∙ ap (λ (m : List ℕ). turned (take n m) ++ drop n m) L.words ∙ words_turned left top w L.laid before n L.count;
-  }
-
-  pub laid_room : n ≤ length mid
-  laid_room = omega (arith, words_length left top w L.laid before n L.count, simp length-append at (ap length L.words))
+pub turned_written : {parents : List ℕ} {s e n : ℕ} {f : Frame} {before mid part : List ℕ} → Laid parents s e f n before mid → part ≡ reverse (take n mid) → Written parents s e f n before (part ++ drop n mid)
+turned_written {n} {f} {before} {mid} L h = record {
+  places = reverse L.laid;
+  trail = L.trail;
+  count = length-reverse L.laid ∙ L.count;
+  words = ap (λ (l : List ℕ). l ++ drop n mid) h ∙ ap (λ (m : List ℕ). reverse (take n m) ++ drop n m) L.words ∙ words_turned f L.laid before n L.count;
+}

@@ -1,16 +1,16 @@
 // The way back: the words of the places that a search's parents pass, from the start to the end.
 #![tactic(auto)]
 
-ghost use Rattle.std.specs.Prelude.{◌≡◌, List, ◌++◌, ℕ, ◌+◌, ◌*◌, ◌^◌, ◌<◌, ◌≤◌, length, take, drop};
+ghost use Rattle.std.specs.Prelude.{◌≡◌, List, ℕ, ◌+◌, ◌^◌, ◌<◌, ◌≤◌, length};
 ghost use Rattle.model.specs.Steps.{point_word};
-ghost use Rattle.search.specs.Places.{spot};
 ghost use Rattle.search.specs.Search.{Trail};
-ghost use Rattle.way_back.specs.Ways.{Window, Short, turned, Laid, Written};
+ghost use Rattle.way_back.specs.Ways.{Window, size, spot, Short, Laid, Written};
 
 use search::wide;
+use stamps::Frame;
 
 // From one place to another: so many places up, or so many down.
-#[derive(Clone, Copy)]
+#[derive(Clone, Copy, Debug, PartialEq, Eq)]
 struct Hop {
     up: usize,
     down: usize,
@@ -38,76 +38,44 @@ fn hop_back(last: Hop, at: usize, back: usize) -> Hop
 }
 
 // The word of the point at place p.
-fn point(left: usize, top: usize, w: usize, h: usize, p: usize) -> u32
-    requires { Window left top w h × (p < w * h) }
-    ensures { result ≡ point_word (spot left top w p) }
+fn point(frame: Frame, p: usize) -> u32
+    requires { Window frame × (p < size frame) }
+    ensures { result ≡ point_word (spot frame p) }
 {
-    ((left + p % w) * 65536 + (top + p / w)) as u32
+    let x = frame.left as usize + p % frame.width;
+    let y = frame.top as usize + p / frame.width;
+    (x * 65536 + y) as u32
 }
 
 // Writes the words of the places that the parents pass from `end` back to `start`, the end's first. Returns their number.
-fn write_back(
-    parents: &[u32],
-    out: &mut [u32],
-    left: usize,
-    top: usize,
-    w: usize,
-    h: usize,
-    start: usize,
-    end: usize,
-) -> usize
-    requires window { Window left top w h }
-    requires parents_len { (length parents.now ≡ w * h) × (w * h ≤ length out.old) × (start < w * h) }
-    requires by_index { (ps : List ℕ) × Trail parents.now start end ps × (length ps ≤ length parents.now) }
-    ensures { Laid parents.now start end left top w result out.old out.new }
+fn write_back(parents: &[u32], out: &mut [u32], frame: Frame, start: usize, end: usize) -> usize
+    requires window { Window frame × (start < size frame) }
+    requires room { (length parents.now ≡ size frame) × (size frame ≤ length out.old) }
+    requires led { (ps : List ℕ) × Trail parents.now start end ps × (length ps ≤ length parents.now) }
+    ensures { Laid parents.now start end frame result out.old out.new }
 {
     let mut n = 0;
     let mut p = end;
     let mut hop = Hop { up: 0, down: 0 };
     while p != start {
-        out[n] = point(left, top, w, h, p);
+        out[n] = point(frame, p);
         n += 1;
         hop = hop_back(hop, p, wide(parents[p]));
         p = p + hop.up - hop.down;
     }
-    out[n] = point(left, top, w, h, start);
+    out[n] = point(frame, start);
     n + 1
-}
-
-// Turns the first n words round.
-fn turn(out: &mut [u32], n: usize)
-    requires { n ≤ length out.old }
-    ensures { out.new ≡ turned (take n out.old) ++ drop n out.old }
-{
-    let half = n / 2;
-    let mut i = 0;
-    while i < half {
-        let j = n - 1 - i;
-        let word = out[i];
-        out[i] = out[j];
-        out[j] = word;
-        i += 1;
-    }
 }
 
 // Writes the words of the places that the parents pass from `start` to `end`. Returns their number. They are laid from the end,
 // since that is where the way back begins, and then turned round.
-pub fn write_way(
-    parents: &[u32],
-    out: &mut [u32],
-    left: usize,
-    top: usize,
-    w: usize,
-    h: usize,
-    start: usize,
-    end: usize,
-) -> usize
-    requires window { Window left top w h }
-    requires parents_len { (length parents.now ≡ w * h) × (w * h ≤ length out.old) × (start < w * h) }
-    requires by_index { (ps : List ℕ) × Trail parents.now start end ps × (length ps ≤ length parents.now) }
-    ensures { Written parents.now start end left top w result out.old out.new }
+pub fn write_way(parents: &[u32], out: &mut [u32], frame: Frame, start: usize, end: usize) -> usize
+    requires window { Window frame × (start < size frame) }
+    requires room { (length parents.now ≡ size frame) × (size frame ≤ length out.old) }
+    requires led { (ps : List ℕ) × Trail parents.now start end ps × (length ps ≤ length parents.now) }
+    ensures { Written parents.now start end frame result out.old out.new }
 {
-    let n = write_back(parents, out, left, top, w, h, start, end);
-    turn(out, n);
+    let n = write_back(parents, out, frame, start, end);
+    out[..n].reverse();
     n
 }

@@ -1,21 +1,14 @@
--- Laws of `written`: words behind words, and a loop that writes one word, or one group of words, after the other. Assumes nothing.
+-- Laws of `written`: words behind words, and a loop that writes one word, or the words of one value, after the other. Assumes nothing.
 use mathlib.Core.Path.{◌≡◌, refl, sym, ap, ◌∙◌}
-use mathlib.Core.List.{List, [], ◌∷◌, ◌++◌, flat_map, append_assoc, append-nil}
-use mathlib.Core.Option.{Option, none, some}
-use Prim.Native.Nat.{ℕ, suc, ◌+◌, ◌-◌, ◌*◌, ◌≤◌, ◌<◌}
+use mathlib.Core.List.{List, [], ◌∷◌, ◌++◌, flat_map, append-nil}
+use Prim.Native.Nat.{ℕ, suc, ◌+◌, ◌*◌, ◌≤◌, ◌<◌}
 use native.Mathlib.Omega.{arith}
 use native.Mathlib.Numerals.{add-one}
-use lib.IntN.{ℤ, pos, negsuc}
-use lib.ListN.{length, get_or, set, take, length-set, length-take}
-use lib.Seq.{take-suc}
-use Rattle.model.specs.declared.WallBuilding.{WallBuilding}
-use Rattle.model.specs.declared.WallPlacement.{WallPlacement}
-use Rattle.numbers.specs.Integers.{up, dn}
-use Rattle.model.specs.declared.Outcome.{Outcome}
-use Rattle.model.specs.declared.Outcome.TheVariants.{Accepted, Refused}
-use Rattle.model.specs.declared.WallError.TheVariants.{InvalidGridDimensions, CellLength, BadCell, InvalidElevation, ObstacleWords, TooManyObstacles, InvalidObstacle, MoverExtentTooLarge, TooManyBuildings, InvalidWindow, WindowTooLarge, TooManyCenters, EndpointOutsideWindow, InvalidFootprint, CollisionExtentTooLarge, CoordinateOverflow, RoomTooSmall, PackedShort, PackedTail, ProgramLimit}
-use Rattle.model.specs.Refusal.{Refusal, given}
-use Rattle.model.specs.Words.{bits, number, refusal_words, placement_words, building_words, written}
+use Rattle.std.proofs.Math.Nat.{mul-suc}
+use Rattle.std.proofs.lemmas.Grind.{flat_map-append}
+use lib.ListN.{length, get_or, set, take, length-take, length-append}
+use lib.Seq.{take-suc, take_all}
+use Rattle.model.specs.Words.{written}
 
 -- the words of two lists, one behind the other
 pub written_append : (k : ℕ) (a b l : List ℕ) → written k (a ++ b) l ≡ written (k + length a) b (written k a l)
@@ -27,12 +20,6 @@ written_append k (w ∷ a) b l = written_append (suc k) a b (set l k w) ∙ ap (
 pub both : (k j : ℕ) (a b l x y : List ℕ) → x ≡ written k a l → y ≡ written j b x → k + length a ≡ j → y ≡ written k (a ++ b) l
 both k j a b l x y e f g = f ∙ (rw (e, ← g) (sym (written_append k a b l)))
 
--- writing keeps the length
-pub written_length : (k : ℕ) (ws l : List ℕ) → length (written k ws l) ≡ length l
-unfolding written
-written_length k [] l = refl
-written_length k (w ∷ ws) l = written_length (suc k) ws (set l k w) ∙ length-set l k w
-
 -- a loop's next word
 pub word_next : (at i : ℕ) (ws l : List ℕ) (d : ℕ) → i < length ws → set (written at (take i ws) l) (at + i) (get_or ws i d) ≡ written at (take (i + 1) ws) l
 unfolding written
@@ -40,82 +27,28 @@ word_next at i ws l d h =
     let n : length (take i ws) ≡ i = length-take i ws ∙ omega arith in
     rw (add-one i, take-suc ws i d h, written_append at (take i ws) (get_or ws i d ∷ []) l, n)
 
-module _ {A : Type 0} (f : A → List ℕ) where
-  groups_append : (a b : List A) → flat_map f (a ++ b) ≡ flat_map f a ++ flat_map f b
+mul_more : (n i : ℕ) → n * (i + 1) ≡ n * i + n
+mul_more n i = rw (add-one i, mul-suc n i)
+
+-- a loop that writes the words of each value, n of them
+module _ {A : Type 0} (f : A → List ℕ) (n at : ℕ) (xs : List A) (before : List ℕ) where
+  pub record WrittenBelow (i : ℕ) (now : List ℕ) : Type 0 where
+    pub each : length (flat_map f (take i xs)) ≡ n * i
+    pub done : now ≡ written at (flat_map f (take i xs)) before
+
+  pub none_written : WrittenBelow 0 before
+  unfolding flat_map written
+  none_written = record { each = omega arith; done = refl }
+
+  pub next_written : (i : ℕ) (d : A) {now ws after : List ℕ} → i < length xs → WrittenBelow i now → length ws ≡ n → ws ≡ f (get_or xs i d) → after ≡ written (at + n * i) ws now
+      → WrittenBelow (i + 1) after
   unfolding flat_map
-  groups_append [] b = refl
-  groups_append (x ∷ a) b = ap (λ (l : List ℕ). f x ++ l) (groups_append a b) ∙ sym (append_assoc (f x) (flat_map f a) (flat_map f b))
+  next_written i d {now} {ws} {after} h so_far long e put =
+      let more : flat_map f (take (i + 1) xs) ≡ flat_map f (take i xs) ++ ws = rw (add-one i, take-suc xs i d h, flat_map-append f (take i xs) (get_or xs i d ∷ []), e) (ap (λ (l : List ℕ). flat_map f (take i xs) ++ l) (append-nil (f (get_or xs i d)))) in
+      record {
+        each = rw (more, length-append (flat_map f (take i xs)) ws, so_far.each, long) (sym (mul_more n i));
+        done = rw more (both at (at + n * i) (flat_map f (take i xs)) ws before now after so_far.done put (omega (arith, so_far.each)));
+      }
 
-  next : (i : ℕ) (xs : List A) (d : A) → i < length xs → flat_map f (take (i + 1) xs) ≡ flat_map f (take i xs) ++ f (get_or xs i d)
-  unfolding flat_map
-  next i xs d h = rw (add-one i, take-suc xs i d h, groups_append (take i xs) (get_or xs i d ∷ []), append-nil (f (get_or xs i d)))
-
-  -- a loop's next group
-  pub group_next : (at k i : ℕ) (xs : List A) (d : A) (l : List ℕ) → i < length xs → k ≡ at + length (flat_map f (take i xs)) → written k (f (get_or xs i d)) (written at (flat_map f (take i xs)) l) ≡ written at (flat_map f (take (i + 1) xs)) l
-  group_next at k i xs d l h e =
-      rw (e, ← (written_append at (flat_map f (take i xs)) (f (get_or xs i d)) l)) (ap (λ (ws : List ℕ). written at ws l) (sym (next i xs d h)))
-
--- nine words each, and eight
-pub nine_each : (ps : List WallPlacement) → length (flat_map placement_words ps) ≡ 9 * length ps
-unfolding flat_map
-nine_each [] = refl
-nine_each (p ∷ ps) = omega (arith, nine_each ps)
-
-pub eight_each : (bs : List WallBuilding) → length (flat_map building_words bs) ≡ 8 * length bs
-unfolding flat_map
-eight_each [] = refl
-eight_each (b ∷ bs) = omega (arith, eight_each bs)
-
--- four words that are read one by one
-pub four_read : (ws : List ℕ) → length ws ≡ 4 → get_or ws 0 0 ∷ get_or ws 1 0 ∷ get_or ws 2 0 ∷ get_or ws 3 0 ∷ [] ≡ ws
-four_read [] h = absurd (omega arith)
-four_read (a ∷ []) h = absurd (omega arith)
-four_read (a ∷ b ∷ []) h = absurd (omega arith)
-four_read (a ∷ b ∷ c ∷ []) h = absurd (omega arith)
-four_read (a ∷ b ∷ c ∷ d ∷ []) h = refl
-four_read (a ∷ b ∷ c ∷ d ∷ e ∷ ws) h = absurd (omega arith)
-
--- an outcome has five words
-pub five : (o : Outcome) → length (refusal_words (given o)) ≡ 5
-five Accepted = refl
-five (Refused (InvalidGridDimensions w h)) = refl
-five (Refused (CellLength w h e a)) = refl
-five (Refused (BadCell i)) = refl
-five (Refused (InvalidElevation i e)) = refl
-five (Refused (ObstacleWords n)) = refl
-five (Refused (TooManyObstacles n)) = refl
-five (Refused (InvalidObstacle i)) = refl
-five (Refused MoverExtentTooLarge) = refl
-five (Refused (TooManyBuildings n)) = refl
-five (Refused InvalidWindow) = refl
-five (Refused (WindowTooLarge w h)) = refl
-five (Refused (TooManyCenters n)) = refl
-five (Refused (EndpointOutsideWindow e x y)) = refl
-five (Refused (InvalidFootprint i w h)) = refl
-five (Refused (CollisionExtentTooLarge i)) = refl
-five (Refused (CoordinateOverflow i)) = refl
-five (Refused (RoomTooSmall a)) = refl
-five (Refused PackedShort) = refl
-five (Refused PackedTail) = refl
-five (Refused ProgramLimit) = refl
-
--- the first of them is the number
-first : (r : Option Refusal) → get_or (refusal_words r) 0 0 ≡ number r
-first none = refl
-first (some r) = refl
-
-front : (ws : List ℕ) → get_or ws 0 0 ≡ get_or (take 5 ws) 0 0
-front [] = refl
-front (w ∷ ws) = refl
-
-pub number_first : (r : Option Refusal) (ws : List ℕ) → take 5 ws ≡ refusal_words r → get_or ws 0 0 ≡ number r
-number_first r ws e = front ws ∙ (ap (λ (l : List ℕ). get_or l 0 0) e ∙ first r)
-
--- a number carried up by 2 ^ 31, carried round to its 32 bits
-pub bits_above : (z : ℤ) (b : ℕ) → b + dn z ≡ 2147483648 + up z → 2147483648 ≤ b → b - 2147483648 ≡ bits z
-bits_above (pos n) b e h = omega arith
-bits_above (negsuc n) b e h = omega arith
-
-pub bits_below : (z : ℤ) (b : ℕ) → b + dn z ≡ 2147483648 + up z → b < 2147483648 → b + 2147483648 ≡ bits z
-bits_below (pos n) b e h = omega arith
-bits_below (negsuc n) b e h = omega arith
+  pub all_written : (i : ℕ) {now : List ℕ} → length xs ≤ i → WrittenBelow i now → now ≡ written at (flat_map f xs) before
+  all_written i h so_far = rw (take_all i xs h) at so_far.done

@@ -1,116 +1,107 @@
 // Answers as words, for hosts in other languages.
 #![tactic(auto)]
 
-ghost use Rattle.std.specs.Prelude.{◌≡◌, ◌+◌, ◌*◌, ◌≤◌, ◌<◌, set, take};
-ghost use mathlib.Core.List.{[], ◌∷◌, flat_map};
-ghost use Rattle.model.specs.Passage.{rank};
+ghost use Rattle.std.specs.Prelude.{◌≡◌, List, ℕ, ◌+◌, ◌*◌, ◌<◌, length, set};
+ghost use mathlib.Core.List.{flat_map};
 ghost use Rattle.model.specs.Refusal.{given};
-ghost use Rattle.model.specs.Words.{bits, flag, number, refusal_words, rect_words, passed_words, placement_words, check_words, test_words, end_words, building_words, query_words, read_words, written};
+ghost use Rattle.model.specs.Words.{bits, number, refusal_words, rect_words, passed_words, placement_words, check_words, test_words, end_words, building_words, query_words, read_words, written};
 
 use model::{
-    CollisionBounds, Outcome, PackedReply, Passed, PixelPosition, PixelRect, TestReply,
-    WallBuilding, WallPassage, WallPlacement, WallQuery, WallReply,
+    CollisionBounds, PackedQuery, Passed, PixelPosition, PixelRect, WallBuilding, WallCheck,
+    WallError, WallPlacement, WallQuery,
 };
 
 // The 32 bits of a signed number.
 fn side(x: i32) -> u64
     ensures { result ≡ bits x }
 {
-    let raised = numbers::biased(x);
-    if raised < 2147483648 {
-        raised + 2147483648
-    } else {
-        raised - 2147483648
-    }
-}
-
-fn flag_word(b: bool) -> u64
-    ensures { result ≡ flag b }
-{
-    if b { 1 } else { 0 }
-}
-
-fn passage_word(passage: WallPassage) -> u64
-    ensures { result ≡ rank passage }
-{
-    match passage {
-        WallPassage::StartBlocked => 0,
-        WallPassage::EndBlocked => 1,
-        WallPassage::Open => 2,
-        WallPassage::AlreadyDisconnected => 3,
-        WallPassage::BlockedWithinWindow => 4,
-    }
-}
-
-// Five words, and four zeros behind them.
-fn five_words(a: u64, b: u64, c: u64, d: u64, e: u64) -> [u64; 9]
-    ensures { result ≡ a ∷ b ∷ c ∷ d ∷ e ∷ 0 ∷ 0 ∷ 0 ∷ 0 ∷ [] }
-{
-    [a, b, c, d, e, 0, 0, 0, 0]
-}
-
-// The number and the values of a refusal first, zeros where there is none.
-fn outcome_words(outcome: Outcome) -> [u64; 9]
-    ensures { take 5 result ≡ refusal_words (given outcome) }
-{
-    match outcome {
-        Outcome::Accepted => five_words(0, 0, 0, 0, 0),
-        Outcome::Refused(e) => {
-            let v = refusals::values(e);
-            five_words(refusals::number(e) as u64, v[0], v[1], v[2], v[3])
-        }
-    }
+    x.cast_unsigned() as u64
 }
 
 // The sides of a rectangle.
 fn rect_words(r: PixelRect) -> [u64; 4]
     ensures { result ≡ rect_words r }
 {
-    let left = side(r.left);
-    let top = side(r.top);
-    let right = side(r.right);
-    let bottom = side(r.bottom);
-    [left, top, right, bottom]
+    [side(r.left), side(r.top), side(r.right), side(r.bottom)]
 }
 
-// Verdict, baseline, number of points and window first.
-fn passed_words(passed: Passed, window: PixelRect) -> [u64; 9]
-    ensures { take 7 result ≡ passed_words passed window }
+// Verdict, baseline, number of points and window.
+fn passed_words(passed: Passed, window: PixelRect) -> [u64; 7]
+    ensures { result ≡ passed_words passed window }
 {
-    let passage = passed.passage;
-    let verdict = passage_word(passage);
-    let baseline = flag_word(passed.baseline_passable);
-    let w = rect_words(window);
+    let [left, top, right, bottom] = rect_words(window);
     [
-        verdict,
-        baseline,
+        passed.passage as u64,
+        passed.baseline_passable as u64,
         passed.points as u64,
-        w[0],
-        w[1],
-        w[2],
-        w[3],
-        0,
-        0,
+        left,
+        top,
+        right,
+        bottom,
     ]
 }
 
-// Both boxes and the number of issues.
-fn placement_words(p: WallPlacement) -> [u64; 9]
-    ensures { result ≡ placement_words p }
+// Start, end and mover.
+fn end_words(s: PixelPosition, e: PixelPosition, m: CollisionBounds) -> [u64; 8]
+    ensures { result ≡ end_words s e m }
 {
-    let f = rect_words(p.footprint);
-    let c = rect_words(p.collision);
     [
-        f[0],
-        f[1],
-        f[2],
-        f[3],
-        c[0],
-        c[1],
-        c[2],
-        c[3],
-        p.issues as u64,
+        s.x as u64,
+        s.y as u64,
+        e.x as u64,
+        e.y as u64,
+        m.left as u64,
+        m.top as u64,
+        m.right as u64,
+        m.bottom as u64,
     ]
+}
+
+// A value of which a host is told N words.
+trait Told<const N: usize>: Copy {
+    ghost words: { Self → List ℕ };
+
+    fn words(self) -> [u64; N]
+        ensures { result ≡ words self };
+}
+
+impl Told<9> for WallPlacement {
+    ghost words = { placement_words };
+
+    // Both boxes and the number of issues.
+    fn words(self) -> [u64; 9] {
+        let f = rect_words(self.footprint);
+        let c = rect_words(self.collision);
+        [
+            f[0],
+            f[1],
+            f[2],
+            f[3],
+            c[0],
+            c[1],
+            c[2],
+            c[3],
+            self.issues as u64,
+        ]
+    }
+}
+
+impl Told<8> for WallBuilding {
+    ghost words = { building_words };
+
+    // Tile, footprint and collision extents.
+    fn words(self) -> [u64; 8] {
+        [
+            self.tile.x as u64,
+            self.tile.y as u64,
+            self.footprint.width_tiles as u64,
+            self.footprint.height_tiles as u64,
+            self.collision.left as u64,
+            self.collision.top as u64,
+            self.collision.right as u64,
+            self.collision.bottom as u64,
+        ]
+    }
 }
 
 // v in place k, where there is one.
@@ -122,146 +113,97 @@ fn put(out: &mut [u64], k: usize, v: u64)
     }
 }
 
-// The first n words in places from `at` on, as many as there are places for.
-fn put_words(out: &mut [u64], at: usize, words: [u64; 9], n: usize)
-    requires { (n ≤ 9) × (at < 1000) }
-    ensures { out.new ≡ written at (take n words) out.old }
+// The words in places from `at` on, as many as there are places for.
+fn put_words(out: &mut [u64], at: usize, words: &[u64])
+    requires { at < 1000 }
+    ensures { out.new ≡ written at words.now out.old }
 {
-    let mut i = 0;
-    while i < n {
-        put(out, at + i, words[i]);
-        i += 1;
+    for (i, word) in words.iter().enumerate() {
+        put(out, at + i, *word);
     }
 }
 
-// The number and the values of the refusal, first. It answers the number.
-fn put_outcome(out: &mut [u64], outcome: Outcome) -> u64
-    ensures { (out.new ≡ written 0 (refusal_words (given outcome)) out.old) × (result ≡ number (given outcome)) }
+// The N words of each value, one behind the other.
+fn put_each<const N: usize, T: Told<N>>(out: &mut [u64], at: usize, values: &[T])
+    requires { at + N * length values.now < 1000 }
+    ensures { out.new ≡ written at (flat_map T.words values.now) out.old }
 {
-    let words = outcome_words(outcome);
-    let told = words[0];
-    put_words(out, 0, words, 5);
-    told
-}
-
-// Nine words for each of the 32 places.
-fn put_placements(out: &mut [u64], at: usize, placements: [WallPlacement; 32])
-    requires { at < 100 }
-    ensures { out.new ≡ written at (flat_map placement_words placements) out.old }
-{
-    let mut i = 0;
-    while i < 32 {
-        let placement = placements[i];
-        put_words(out, at + 9 * i, placement_words(placement), 9);
-        i += 1;
+    for (i, value) in values.iter().enumerate() {
+        put_words(out, at + N * i, &value.words());
     }
 }
 
-// What a check answers, and the number of its refusal.
-pub fn put_check(out: &mut [u64], reply: WallReply) -> u64
-    ensures { (out.new ≡ written 0 (check_words reply) out.old) × (result ≡ number (given reply.outcome)) }
+// The number and the values of the refusal in the first five places, zeros where there is none. It answers the number.
+fn put_refusal<T>(out: &mut [u64], reply: &Result<T, WallError>) -> u64
+    ensures words { out.new ≡ written 0 (refusal_words (given reply.now)) out.old }
+    ensures five { length (refusal_words (given reply.now)) ≡ 5 }
+    ensures told { result ≡ number (given reply.now) }
 {
-    let check = reply.check;
-    let passed = check.passed;
-    let window = check.window;
-    let placements = check.placements;
-    let outcome = reply.outcome;
-    let told = put_outcome(out, outcome);
-    put_words(out, 5, passed_words(passed, window), 7);
-    put_placements(out, 12, placements);
-    told
-}
-
-// What a route test answers, and the number of its refusal.
-pub fn put_test(out: &mut [u64], reply: TestReply) -> u64
-    ensures { (out.new ≡ written 0 (test_words reply) out.old) × (result ≡ number (given reply.outcome)) }
-{
-    let outcome = reply.outcome;
-    let told = put_outcome(out, outcome);
-    put(out, 5, flag_word(reply.passes));
-    told
-}
-
-// Start, end and mover first.
-fn end_words(s: PixelPosition, e: PixelPosition, m: CollisionBounds) -> [u64; 9]
-    ensures { take 8 result ≡ end_words s e m }
-{
-    [
-        s.x as u64,
-        s.y as u64,
-        e.x as u64,
-        e.y as u64,
-        m.left as u64,
-        m.top as u64,
-        m.right as u64,
-        m.bottom as u64,
-        0,
-    ]
-}
-
-// A building's words first.
-fn building_words(b: WallBuilding) -> [u64; 9]
-    ensures { take 8 result ≡ building_words b }
-{
-    let t = b.tile;
-    let f = b.footprint;
-    let c = b.collision;
-    [
-        t.x as u64,
-        t.y as u64,
-        f.width_tiles as u64,
-        f.height_tiles as u64,
-        c.left as u64,
-        c.top as u64,
-        c.right as u64,
-        c.bottom as u64,
-        0,
-    ]
-}
-
-// Eight words for each of the 32 places.
-fn put_plan(out: &mut [u64], at: usize, buildings: [WallBuilding; 32])
-    requires { at < 100 }
-    ensures { out.new ≡ written at (flat_map building_words buildings) out.old }
-{
-    let mut i = 0;
-    while i < 32 {
-        let building = buildings[i];
-        put_words(out, at + 8 * i, building_words(building), 8);
-        i += 1;
+    match reply {
+        Ok(_) => {
+            put_words(out, 0, &[0; 5]);
+            0
+        }
+        Err(e) => {
+            let number = refusals::number(*e) as u64;
+            let values = refusals::values(*e);
+            put(out, 0, number);
+            put_words(out, 1, &values);
+            number
+        }
     }
+}
+
+// What a check answers, zeros beside a refusal, and the number of the refusal.
+pub fn put_check(out: &mut [u64], reply: Result<WallCheck, WallError>) -> u64
+    ensures { (out.new ≡ written 0 (check_words reply) out.old) × (result ≡ number (given reply)) }
+{
+    let told = put_refusal(out, &reply);
+    match reply {
+        Ok(check) => {
+            put_words(out, 5, &passed_words(check.passed, check.window));
+            put_each(out, 12, &check.placements);
+        }
+        Err(_) => put_words(out, 5, &[0; 295]),
+    }
+    told
+}
+
+// What a route test answers, no beside a refusal, and the number of the refusal.
+pub fn put_test(out: &mut [u64], reply: Result<bool, WallError>) -> u64
+    ensures { (out.new ≡ written 0 (test_words reply) out.old) × (result ≡ number (given reply)) }
+{
+    let told = put_refusal(out, &reply);
+    put(out, 5, reply.unwrap_or(false) as u64);
+    told
 }
 
 // The words that a query is made from, but for the number of buildings.
 fn put_query(out: &mut [u64], query: WallQuery)
     ensures { out.new ≡ written 9 (query_words query) out.old }
 {
-    let window = query.window;
-    let plan = query.plan;
-    let buildings = plan.buildings;
-    let w = rect_words(window);
-    put_words(out, 9, five_words(w[0], w[1], w[2], w[3], 0), 4);
-    put_words(out, 13, end_words(query.start, query.end, query.mover), 8);
-    put_plan(out, 21, buildings);
+    put_words(out, 9, &rect_words(query.window));
+    put_words(out, 13, &end_words(query.start, query.end, query.mover));
+    put_each(out, 21, &query.plan.buildings);
 }
 
-// What reading a packed query answers, and the number of its refusal.
-pub fn put_read(out: &mut [u64], reply: PackedReply) -> u64
-    ensures { (out.new ≡ written 0 (read_words reply) out.old) × (result ≡ number (given reply.outcome)) }
+// What reading a packed query answers, zeros beside a refusal, and the number of the refusal.
+pub fn put_read(out: &mut [u64], reply: Result<PackedQuery, WallError>) -> u64
+    ensures { (out.new ≡ written 0 (read_words reply) out.old) × (result ≡ number (given reply)) }
 {
-    let packed = reply.packed;
-    let query = packed.query;
-    let plan = query.plan;
-    let sizes = five_words(
-        packed.width as u64,
-        packed.height as u64,
-        packed.obstacles as u64,
-        plan.count as u64,
-        0,
-    );
-    let outcome = reply.outcome;
-    let told = put_outcome(out, outcome);
-    put_words(out, 5, sizes, 4);
-    put_query(out, query);
+    let told = put_refusal(out, &reply);
+    match reply {
+        Ok(packed) => {
+            let sizes = [
+                packed.width as u64,
+                packed.height as u64,
+                packed.obstacles as u64,
+                packed.query.plan.count as u64,
+            ];
+            put_words(out, 5, &sizes);
+            put_query(out, packed.query);
+        }
+        Err(_) => put_words(out, 5, &[0; 272]),
+    }
     told
 }

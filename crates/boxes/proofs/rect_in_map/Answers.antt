@@ -7,7 +7,7 @@ use mir.Facts.{to_z-of_z, to_z_pos}
 use mir.Syntax.{w32, w64}
 use mir.Val.{SFits, to_z}
 use borrow.Author.Rules.{rules}
-use Rattle.numbers.proofs.Integers.{widens, widened}
+use Rattle.numbers.proofs.Integers.{widened}
 use Rattle.model.specs.Boxes.{in_map}
 use Rattle.boxes.proofs.rect_in_map.Goals.{Start}
 use Rattle.boxes.proofs.rect_in_map.Goals as goal
@@ -32,12 +32,6 @@ module _ (c : Start) where
 
   high : to_z w64 (8 * c.args.height) ≡ pos (8 * c.args.height)
   high = to_z_pos w64 (omega arith)
-
-pub overflow_cast-result : goal.overflow_cast-result
-overflow_cast-result c = widens (right c.before.before.before.before.before.before.before)
-
-pub overflow_cast-result-4 : goal.overflow_cast-result-4
-overflow_cast-result-4 c = widens (bottom c.before.before.before.before.before.before.before.before)
 
 pub returns : goal.returns
 unfolding in_map

@@ -1,8 +1,7 @@
--- `counts::count_ground` meets its contract: cleared, stamped and finished. Assumes nothing.
-use native.Mathlib.Omega.{arith}
-use Rattle.stamps.proofs.Adding.{counted}
+-- `counts::count_ground` meets its contract: what the closure adds is what the ground stops. Assumes nothing.
+use Rattle.std.proofs.Common.{rules, arith}
+use Rattle.counts.specs.Counts.{ground_cap}
 use Rattle.counts.proofs.count_ground.Goals as goal
 
 pub returns : goal.returns
-returns c =
-    counted (omega arith) c.clear.ensures c.stamp_ground.ensures c.finish.ensures
+returns c = c.count.ensures ground_cap _ (omega arith) (λ was now p. search rules)

@@ -1,8 +1,6 @@
--- `counts::count_plan` meets its contract: cleared, stamped and finished. Assumes nothing.
-use native.Mathlib.Omega.{arith}
-use Rattle.stamps.proofs.Adding.{counted}
+-- `counts::count_plan` meets its contract: what the closure adds is what the plan stops. Assumes nothing.
+use Rattle.std.proofs.Common.{rules, arith}
 use Rattle.counts.proofs.count_plan.Goals as goal
 
 pub returns : goal.returns
-returns c =
-    counted (omega arith) c.clear.ensures c.stamp_plan.ensures c.finish.ensures
+returns c = c.count.ensures 32 _ (omega arith) (λ was now p. search rules)

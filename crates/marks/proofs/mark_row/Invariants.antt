@@ -1,13 +1,8 @@
 -- `marks::mark_row` meets its contract. The invariant: the first i centers of the row are marked. Assumes nothing.
-use mathlib.Core.Path.{◌≡◌}
-use Prim.Native.Nat.{◌-◌, ◌≤◌}
-use lib.ListN.{length}
-use Rattle.marks.specs.Passes.{Row}
+use Rattle.std.proofs.Common.{◌≡◌, ℕ, ◌<◌, get_or}
+use Rattle.marks.specs.Marks.{mark_of}
+use Rattle.marks.specs.Passes.{covered}
 use Rattle.marks.proofs.mark_row.Given as goal
 
 abbrev pub invariant-loop-i : goal.invariant-loop-i
-invariant-loop-i l =
-    (l.i ≤ l.n) × (length l.marks ≡ length l.initial.marks) × Row l.to l.from l.i l.ground l.plan l.initial.marks l.marks
-
-abbrev pub decreases-loop-i : goal.decreases-loop-i
-decreases-loop-i l = l.n - l.i
+invariant-loop-i l = (k : ℕ) → k < l.i → get_or l.marks k 0 ≡ mark_of (covered l.ground l.plan k)

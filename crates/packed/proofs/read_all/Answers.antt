@@ -7,10 +7,6 @@ use Rattle.packed.proofs.Length.{area_of_header}
 use Rattle.packed.proofs.Whole.{cells_read, words_read, query_read}
 use Rattle.packed.proofs.read_all.Goals as goal
 
-pub cells-at-requires : goal.cells-at-requires
-cells-at-requires c =
-    omega (arith, area_of_header c.requires.header_is)
-
 pub returns : goal.returns
 returns c =
     let words = c.before.before in

@@ -4,4 +4,4 @@ use Rattle.packed.proofs.read_room.Goals as goal
 
 pub returns : goal.returns
 unfolding read_rooms
-returns c = λ s a e f h. rw (f, h, c.area-needs.ensures.0, e.width, e.height, e.obstacles) at c.room_too_small.ensures
+returns c = λ s a e f h. rw (f, h, c.area.ensures.0, e.width, e.height, e.obstacles) at c.room_too_small.ensures

@@ -9,4 +9,4 @@ returns-in_default c = λ a e f. sym (stage_refused _ _ c.in_default.is c.valida
 pub returns : goal.returns
 returns c =
     λ a e f. c.read_room.ensures c.args.s.now a c.read_header-h.ensures e f
-    ∙ sym (stage_passed _ _ c.in-Accepted.is c.validate_length-told.ensures)
+    ∙ sym (stage_passed _ _ c.in-Ok.is c.validate_length-told.ensures)

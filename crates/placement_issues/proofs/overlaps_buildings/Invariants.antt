@@ -1,5 +1,4 @@
 -- `placement_issues::overlaps_buildings` meets its contract. The invariant: the words of the buildings passed are written. Assumes nothing.
-use Prim.Native.Nat.{◌-◌, ◌≤◌}
 use Rattle.model.specs.Ground.{built}
 use Rattle.model.specs.Placement.{OverlapsBuilding}
 use Rattle.placement_issues.specs.Words.{other_met_by}
@@ -7,8 +6,4 @@ use Rattle.placement_issues.proofs.Written.{Written}
 use Rattle.placement_issues.proofs.overlaps_buildings.Given as goal
 
 abbrev pub invariant-loop-i : goal.invariant-loop-i
-invariant-loop-i l =
-    (l.i ≤ l.count) × Written l.building OverlapsBuilding (other_met_by l.building l.footprint) (built l.plan) l.initial.issues l.at l.i l.issues l.next
-
-abbrev pub decreases-loop-i : goal.decreases-loop-i
-decreases-loop-i l = l.count - l.i
+invariant-loop-i l = Written l.building OverlapsBuilding (other_met_by l.building l.footprint) (built l.plan) l.i l.initial.issues l.issues l.count

@@ -8,9 +8,9 @@ returns-in_default c = sym (stage_refused _ _ c.in_default.is c.validate_size-to
 
 pub returns-in_default-told : goal.returns-in_default-told
 returns-in_default-told c =
-    sym (stage_passed _ _ c.in-Accepted.is c.validate_size-told.ensures ∙ stage_refused _ _ c.in_default-told.is c.validate_cells-told.ensures)
+    sym (stage_passed _ _ c.in-Ok.is c.validate_size-told.ensures ∙ stage_refused _ _ c.in_default-told.is c.validate_cells-told.ensures)
 
 pub returns : goal.returns
 returns c =
     c.validate_obstacles.ensures
-    ∙ sym (stage_passed _ _ c.in-Accepted.is c.validate_size-told.ensures ∙ stage_passed _ _ c.in-Accepted-told.is c.validate_cells-told.ensures)
+    ∙ sym (stage_passed _ _ c.in-Ok.is c.validate_size-told.ensures ∙ stage_passed _ _ c.in-Ok-told.is c.validate_cells-told.ensures)

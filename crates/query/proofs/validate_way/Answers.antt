@@ -8,19 +8,19 @@ returns-in_default c = sym (stage_refused _ _ c.in_default.is c.validate_mover-t
 
 pub returns-in_default-told : goal.returns-in_default-told
 returns-in_default-told c =
-    sym (stage_passed _ _ c.in-Accepted.is c.validate_mover-told.ensures ∙ stage_refused _ _ c.in_default-told.is c.validate_count-told.ensures)
+    sym (stage_passed _ _ c.in-Ok.is c.validate_mover-told.ensures ∙ stage_refused _ _ c.in_default-told.is c.validate_count-told.ensures)
 
 pub returns-in_default-told-2 : goal.returns-in_default-told-2
 returns-in_default-told-2 c =
     sym
-    (stage_passed _ _ c.in-Accepted.is c.validate_mover-told.ensures
-    ∙ (stage_passed _ _ c.in-Accepted-told.is c.validate_count-told.ensures
+    (stage_passed _ _ c.in-Ok.is c.validate_mover-told.ensures
+    ∙ (stage_passed _ _ c.in-Ok-told.is c.validate_count-told.ensures
     ∙ stage_refused _ _ c.in_default-told-2.is c.validate_window-told.ensures))
 
 pub returns : goal.returns
 returns c =
     c.validate_ends.ensures
     ∙ sym
-    (stage_passed _ _ c.in-Accepted.is c.validate_mover-told.ensures
-    ∙ (stage_passed _ _ c.in-Accepted-told.is c.validate_count-told.ensures
-    ∙ stage_passed _ _ c.in-Accepted-told-2.is c.validate_window-told.ensures))
+    (stage_passed _ _ c.in-Ok.is c.validate_mover-told.ensures
+    ∙ (stage_passed _ _ c.in-Ok-told.is c.validate_count-told.ensures
+    ∙ stage_passed _ _ c.in-Ok-told-2.is c.validate_window-told.ensures))

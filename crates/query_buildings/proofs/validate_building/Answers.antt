@@ -18,7 +18,7 @@ returns-in_default c =
       c.if-width_tiles-height_tiles.false,
       ← c.is_wide.ensures,
       c.if-is_wide.false,
-      overflows c.args.b c.building_geometry-geometry.ensures c.in_default.is,
+      overflows c.args.b c.building_geometry.ensures c.in_default.is,
     )
 
 pub returns : goal.returns
@@ -28,5 +28,5 @@ returns c =
       c.if-width_tiles-height_tiles.false,
       ← c.is_wide.ensures,
       c.if-is_wide.false,
-      fits c.args.b c.building_geometry-geometry.ensures c.in-Fits.is,
+      fits c.args.b c.building_geometry.ensures c.in-Some.is,
     )

@@ -13,36 +13,19 @@ use Rattle.query_ground.proofs.Found.{none_hollow, first_hollow}
 use Rattle.query_ground.proofs.validate_rects.Goals.{After-is_hollow}
 use Rattle.query_ground.proofs.validate_rects.Goals as goal
 
--- what is tested is obstacle i
-tested : (c : After-is_hollow) → hollow (get_or (rects c.args.words.now) c.loop-i.i no_rect) ≡ c.is_hollow.result
+-- what is tested is the obstacle at the index
+tested : (c : After-is_hollow) → hollow (get_or (rects c.args.words.now) c.loop-index.index no_rect) ≡ c.is_hollow.result
 tested c = rw (← c.obstacle_at-obstacle.ensures) (sym c.is_hollow.ensures)
-
-pub loop-i-init : goal.loop-i-init
-loop-i-init c = (omega arith, λ k m. absurd (omega arith))
-
-pub obstacle_at-obstacle-requires : goal.obstacle_at-obstacle-requires
-obstacle_at-obstacle-requires c = omega arith
 
 pub returns-then-is_hollow : goal.returns-then-is_hollow
 returns-then-is_hollow c =
-    let called = c.before in
-    let l = called.before.before.before in
-    let ws : List ℤ = l.args.words.now in
-    sym (first_hollow ws l.loop-i.i (omega (arith, rects_length ws)) l.loop-i.invariant.1 (tested called ∙ c.if-is_hollow.true))
+    let ws : List ℤ = c.args.words.now in
+    sym (first_hollow ws c.loop-index.index (omega (arith, rects_length ws)) c.loop-index.invariant (tested c.before ∙ c.if-is_hollow.true))
 
-pub overflow_add-i : goal.overflow_add-i
-overflow_add-i c = omega arith
-
-pub loop-i-smaller : goal.loop-i-smaller
-loop-i-smaller c = omega arith
-
-pub loop-i-preserved : goal.loop-i-preserved
-loop-i-preserved c =
-    let called = c.before in
-    let l = called.before.before.before in
-    (omega arith, below_more _ _ l.loop-i.invariant.1 (tested called ∙ c.if-is_hollow.false))
+pub loop-index-preserved : goal.loop-index-preserved
+loop-index-preserved c = below_more _ _ c.loop-index.invariant (tested c.before ∙ c.if-is_hollow.false)
 
 pub returns : goal.returns
 returns c =
     let ws : List ℤ = c.args.words.now in
-    sym (none_hollow ws (λ k m. c.loop-i.invariant.1 k (omega (arith, rects_length ws))))
+    sym (none_hollow ws (λ k m. c.loop-index.invariant k (omega (arith, rects_length ws))))

@@ -4,30 +4,10 @@ use lib.IntN.{pos}
 use mir.Syntax.{w32, w64}
 use mir.Val.{SFits, to_z}
 use borrow.Author.Rules.{rules}
-use Rattle.numbers.proofs.Integers.{read_u32, widens, widened}
+use Rattle.numbers.proofs.Integers.{read_u32, widened}
 use Rattle.model.specs.Boxes.{holds}
 use Rattle.query_way.proofs.window_holds.Goals.{Start}
 use Rattle.query_way.proofs.window_holds.Goals as goal
-
-pub overflow_cast-result : goal.overflow_cast-result
-overflow_cast-result c =
-    let left : SFits w32 c.args.window.left = search rules in
-    widens (left)
-
-pub overflow_cast-result-4 : goal.overflow_cast-result-4
-overflow_cast-result-4 c =
-    let right : SFits w32 c.args.window.right = search rules in
-    widens (right)
-
-pub overflow_cast-result-5 : goal.overflow_cast-result-5
-overflow_cast-result-5 c =
-    let top : SFits w32 c.args.window.top = search rules in
-    widens (top)
-
-pub overflow_cast-result-8 : goal.overflow_cast-result-8
-overflow_cast-result-8 c =
-    let bottom : SFits w32 c.args.window.bottom = search rules in
-    widens (bottom)
 
 pub returns : goal.returns
 unfolding holds

@@ -4,7 +4,7 @@ use Rattle.records.proofs.Fill.{begins, again, ends, refuses}
 use Rattle.records.proofs.copy_obstacles.Goals as goal
 
 pub returns-then-words-words_needed : goal.returns-then-words-words_needed
-returns-then-words-words_needed c = refuses c.args.rects.now c.args.words.now c.too_small.result (omega arith) c.too_small.ensures
+returns-then-words-words_needed c = refuses c.args.rects.now c.args.words.now (omega arith)
 
 pub loop-i-init : goal.loop-i-init
 loop-i-init c = begins c.args.rects.now c.args.words.now

@@ -1,40 +1,23 @@
--- `search::try_step` meets its contract. Assumes nothing.
-use mathlib.Core.Path.{◌≡◌, ap, ◌∙◌}
-use Prim.Native.Nat.{ℕ, ◌<◌}
+-- `search::try_step` meets its contract: the queue has room, since the place that is queued had no parent. Assumes nothing.
+use Prim.Native.Nat.{◌<◌}
 use native.Mathlib.Omega.{arith}
-use lib.ListN.{length, get_or}
-use Rattle.search.specs.Places.{ahead}
+use lib.ListN.{length}
 use Rattle.search.proofs.Noted.{noted_room}
-use Rattle.search.proofs.Trying.{left_alone, put_in}
+use Rattle.search.proofs.try_step.Given.{Over}
+use Rattle.search.proofs.try_step.Goals.{Else-wide-bar-ne0}
 use Rattle.search.proofs.try_step.Goals as goal
 
-pub returns-then-wide-bar-ne0 : goal.returns-then-wide-bar-ne0
-returns-then-wide-bar-ne0 c =
-    let read : let a = c.args in c.wide.result ≡ get_or a.parents.now (ahead a.w a.p a.d) 0 = c.wide.ensures.0 ∙ ap (λ (n : ℕ). get_or c.args.parents.now n 0) c.step_from-next.ensures in
-    left_alone (omega (arith, read, c.if-wide-bar-ne0.true))
+room : (g : Over) (c : Else-wide-bar-ne0 g) → c.args.tail < length c.args.queue.now
+room g c =
+    let next = c.step_from-next.result in
+    let parents = c.args.parents.now in
+    omega (arith, noted_room parents next (omega (arith, (c.requires.lands (λ _. omega arith)).1)) (omega (arith, c.if-wide-bar-ne0.false)))
 
 pub offset_bounds-queue-tail : goal.offset_bounds-queue-tail
-offset_bounds-queue-tail c =
-    let read : let a = c.args in c.wide.result ≡ get_or a.parents.now (ahead a.w a.p a.d) 0 = c.wide.ensures.0 ∙ ap (λ (n : ℕ). get_or c.args.parents.now n 0) c.step_from-next.ensures in
-    let room : c.args.tail < length c.args.queue.now = (let a = c.args in
-    omega (arith, noted_room a.parents.now (ahead a.w a.p a.d) c.requires.w_bound.1 (omega (arith, read, c.if-wide-bar-ne0.false)), c.requires.growing.counted, c.requires.growing.as_long)) in
-    omega (arith, room)
+offset_bounds-queue-tail g c = omega (arith, room g c)
 
 pub bounds-queue-tail : goal.bounds-queue-tail
-bounds-queue-tail c =
-    let read : let a = c.args in c.wide.result ≡ get_or a.parents.now (ahead a.w a.p a.d) 0 = c.wide.ensures.0 ∙ ap (λ (n : ℕ). get_or c.args.parents.now n 0) c.step_from-next.ensures in
-    let room : c.args.tail < length c.args.queue.now = (let a = c.args in
-    omega (arith, noted_room a.parents.now (ahead a.w a.p a.d) c.requires.w_bound.1 (omega (arith, read, c.if-wide-bar-ne0.false)), c.requires.growing.counted, c.requires.growing.as_long)) in
-    omega (arith, room)
+bounds-queue-tail g c = room g c
 
 pub overflow_add-result : goal.overflow_add-result
-overflow_add-result c =
-    let read : let a = c.args in c.wide.result ≡ get_or a.parents.now (ahead a.w a.p a.d) 0 = c.wide.ensures.0 ∙ ap (λ (n : ℕ). get_or c.args.parents.now n 0) c.step_from-next.ensures in
-    let room : c.args.tail < length c.args.queue.now = (let a = c.args in
-    omega (arith, noted_room a.parents.now (ahead a.w a.p a.d) c.requires.w_bound.1 (omega (arith, read, c.if-wide-bar-ne0.false)), c.requires.growing.counted, c.requires.growing.as_long)) in
-    omega (arith, room)
-
-pub returns : goal.returns
-returns c =
-    let read : let a = c.args in c.wide.result ≡ get_or a.parents.now (ahead a.w a.p a.d) 0 = c.wide.ensures.0 ∙ ap (λ (n : ℕ). get_or c.args.parents.now n 0) c.step_from-next.ensures in
-    put_in (omega (arith, read, c.if-wide-bar-ne0.false)) c.step_from-next.ensures
+overflow_add-result g c = omega (arith, room g c)

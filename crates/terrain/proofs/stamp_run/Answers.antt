@@ -1,7 +1,5 @@
 -- `terrain::stamp_run` meets its contract: an empty run stops nothing, and another is one blocker. Assumes nothing.
-use mathlib.Core.Path.{sym}
-use Prim.Native.Nat.{◌+◌, ◌*◌}
-use native.Mathlib.Omega.{arith}
+use Rattle.std.proofs.Common.{◌+◌, ◌*◌, sym, rules, arith}
 use Rattle.stamps.specs.Stamps.{stop, flat}
 use Rattle.stamps.proofs.Some.{among_none}
 use Rattle.stamps.proofs.Adding.{adds_none, adds_same}
@@ -18,5 +16,4 @@ pub returns : goal.returns
 returns c =
     let a = c.args in
     adds_same (omega arith) (λ x y hx hy. run_stops_as_flat a.frame a.mover a.row a.from a.to x y (omega arith))
-    (c.stamp_expanded.ensures (flat (8 * a.from) (8 * a.row) (8 * a.to) (8 * a.row + 8))
-    (record { left = omega arith; top = omega arith; right = omega arith; bottom = omega arith }))
+    (c.stamp_expanded.ensures (flat (8 * a.from) (8 * a.row) (8 * a.to) (8 * a.row + 8)) (search rules))

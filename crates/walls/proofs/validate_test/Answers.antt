@@ -1,6 +1,6 @@
 -- `walls::validate_test` meets its contract: 1 to 16, then 17. Assumes nothing.
 use mathlib.Core.Path.{sym, ◌∙◌}
-use Rattle.model.specs.Ground.{ground}
+use Rattle.model.specs.Ground.{seen}
 use Rattle.model.proofs.Lines.{stage_passed, stage_refused}
 use Rattle.walls.proofs.Accepting.{small}
 use Rattle.walls.proofs.validate_test.Goals as goal
@@ -11,8 +11,8 @@ returns-in_default c = λ a base plan marks. sym (stage_refused _ _ c.in_default
 pub test_room-requires : goal.test_room-requires
 test_room-requires c =
     let a = c.args in
-    small (ground a.width a.height a.cells.now a.words.now) a.query c.in-Accepted.is c.validate_query-told.ensures
+    small (seen a.ground) a.query c.in-Ok.is c.validate_query-told.ensures
 
 pub returns : goal.returns
 returns c =
-    λ a base plan marks. c.test_room.ensures a base plan marks ∙ sym (stage_passed _ _ c.in-Accepted.is c.validate_query-told.ensures)
+    λ a base plan marks. c.test_room.ensures a base plan marks ∙ sym (stage_passed _ _ c.in-Ok.is c.validate_query-told.ensures)

