@@ -3,10 +3,6 @@ use Rattle.std.specs.Prelude.{Option, Some, None, Bool, ◌&&◌, cond, ℕ, ◌
 use Rattle.model.specs.Boxes.{in_i32}
 use Rattle.axes.specs.declared.Sides.{Sides}
 
--- a side, if i32 holds it
-abbrev pub side_of : ℤ → Option ℤ
-side_of z = cond (in_i32 z) (Some z) None
-
 -- i32 holds all four sides
 abbrev pub held : ℤ → ℤ → ℤ → ℤ → Bool
 held left right low high = (in_i32 left && in_i32 right) && (in_i32 low && in_i32 high)

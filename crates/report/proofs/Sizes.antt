@@ -1,4 +1,4 @@
--- How long the pieces of a report can be, every number counted at 20 digits, and that the room for the longest holds them. Assumes nothing.
+-- How long the pieces of a report can be, every number counted at 20 digits, and that `report_room` holds the longest. Assumes nothing.
 use mathlib.Core.Bool.{Bool, true, false, cond}
 use mathlib.Core.List.{List, [], ◌∷◌, ◌++◌, flat_map}
 use Prim.Native.Nat.{ℕ, zero, suc, ◌+◌, ◌*◌, ◌/◌, ◌%◌, ◌^◌, ◌≤◌}
@@ -15,9 +15,10 @@ use Rattle.model.specs.declared.WallCheck.{WallCheck}
 use Rattle.model.specs.declared.WallPassage.{WallPassage}
 use Rattle.model.specs.declared.WallPassage.TheVariants.{StartBlocked, EndBlocked, Open, AlreadyDisconnected, BlockedWithinWindow}
 use Rattle.model.specs.declared.WallPlacement.{WallPlacement}
-use Rattle.model.specs.Report.{bytes, digits, decimal, spaced, box_text, placement_line, kind_names, issue_line, placement_lines, point_line, refused_text}
+use Rattle.model.specs.Report.{bytes, digits, decimal, spaced, box_text, placement_line, kind_names, issue_line, placement_lines, point_line, report_text, refused_text}
 use Rattle.report_passage.specs.Passage.{verdict_text, passage_text}
-use Rattle.report.specs.Printing.{issue_sum, refused_room, Printable}
+use Rattle.report.specs.Printing.{issue_sum, report_room, refused_room, Printable}
+use Rattle.report.proofs.Lines.{report_length}
 
 digits_few : (k n : ℕ) → length (digits k n) ≤ k
 unfolding digits
@@ -88,19 +89,30 @@ placements_short k (p ∷ ps) words =
       placements_short (suc k) ps (drop p.issues words),
     ))
 
--- the pieces of the longest report of the program, one behind the other, fit its room
+-- the longest report of the program fits its room
+pub report_short : (ps : List WallPlacement) (issues : List ℕ) (p : Passed) (points : List ℕ) → length ps ≤ 32 → issue_sum ps ≤ 2080 → length points ≤ 1600
+    → length (report_text ps issues p points) ≤ report_room
+report_short ps issues p points buildings words many =
+    omega (
+      arith,
+      report_length ps issues p points,
+      placements_short 0 ps issues,
+      passage_short p,
+      lines_short point_line 42 point_short points,
+    )
+
+-- so do its pieces, one behind the other
 pub pieces_fit : {check : WallCheck} {count : ℕ} {issues route out : List ℕ} → Printable check count issues route out
     → length (bytes "check ok\n") + (length (placement_lines 0 (take count check.placements) issues) + (length (passage_text check.passed)
     + length (flat_map point_line (take check.passed.points route)))) ≤ length out
 pieces_fit {check} {count} {issues} {route} {out} p =
+    let placed = take count check.placements in
+    let points = take check.passed.points route in
     omega (
       arith,
       p,
-      placements_short 0 (take count check.placements) issues,
-      length-take count check.placements,
-      passage_short check.passed,
-      lines_short point_line 42 point_short (take check.passed.points route),
-      length-take check.passed.points route,
+      report_length placed issues check.passed points,
+      report_short placed issues check.passed points (omega (arith, p, length-take count check.placements)) p.issues_few (omega (arith, p, length-take check.passed.points route)),
     )
 
 -- a refusal fits its room
