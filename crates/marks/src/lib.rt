@@ -4,6 +4,7 @@
 
 ghost use Rattle.std.specs.Prelude.{◌≡◌, ◌||◌, ◌+◌, ◌*◌, ◌<◌, ◌≤◌, ltb, pos, nat_abs, length, get_or};
 ghost use Rattle.model.specs.Ground.{seen};
+ghost use Rattle.model.specs.Areas.{cleared};
 ghost use Rattle.marks.specs.Marks.{Centers, Ready, Roomy, areas, frame_of, mark_of};
 ghost use Rattle.marks.specs.Passes.{Row, Part, Settled};
 
@@ -98,4 +99,12 @@ pub fn mark_centers(
     counts::count_ground(base, frame, mover, ground);
     counts::count_plan(planned, frame, mover, plan);
     settle(base, planned, marks, frame);
+}
+
+// Writes 0 to the first n marks.
+pub fn clear_marks(marks: &mut [u8], n: usize)
+    requires { n ≤ length marks.old }
+    ensures { marks.new ≡ cleared n marks.old }
+{
+    marks[..n].fill(0);
 }

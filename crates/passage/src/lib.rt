@@ -142,6 +142,6 @@ pub fn passage(
     marks::mark_centers(ground, window, mover, plan, base, planned, marks);
     let frame = marks::frame_of(window);
     let passed = judged(marks, frame, parents, queue, out, start, end);
-    marks[..2 * (frame.width * frame.height)].fill(0);
+    marks::clear_marks(marks, 2 * (frame.width * frame.height));
     passed
 }

@@ -50,8 +50,8 @@ fn follows(marks: &[u8], frame: Frame, p: PixelPosition, q: PixelPosition) -> bo
 {
     let beside = is_free(marks, frame, PixelPosition { x: q.x, y: p.y });
     let below = is_free(marks, frame, PixelPosition { x: p.x, y: q.y });
-    let straight = p.x == q.x || p.y == q.y;
-    near(p.x, q.x) && near(p.y, q.y) && (straight || (beside && below))
+    let straight = (p.x == q.x) | (p.y == q.y);
+    near(p.x, q.x) & near(p.y, q.y) & (straight | (beside & below))
 }
 
 // Whether p is free and q may follow it.
@@ -59,7 +59,7 @@ fn goes_on(marks: &[u8], frame: Frame, p: PixelPosition, q: PixelPosition) -> bo
     requires { Framed marks.now frame }
     ensures { ByMarks marks.now frame (λ free. free p.x p.y && test.follows free p q) result }
 {
-    is_free(marks, frame, p) && follows(marks, frame, p, q)
+    is_free(marks, frame, p) & follows(marks, frame, p, q)
 }
 
 // Whether p is free, and is the end.

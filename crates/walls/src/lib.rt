@@ -133,7 +133,7 @@ fn tested(
     );
     let frame = marks::frame_of(window);
     let passes = route_list::is_passage_planned(marks, frame, list, query.start, query.end);
-    marks[..2 * (frame.width * frame.height)].fill(0);
+    marks::clear_marks(marks, 2 * (frame.width * frame.height));
     passes
 }
 

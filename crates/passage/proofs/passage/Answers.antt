@@ -16,9 +16,7 @@ returns c =
     let a = c.args in
     let e = c.frame_of-frame.ensures in
     let frame = c.frame_of-frame.result in
-    let n = 2 * (frame.width * frame.height) in
     let marks = c.mark_centers.new.marks in
-    let zeros : c.fill.new.self ++ drop n marks ≡ cleared n marks = search rules in
     passage_told (seen a.ground) a.window a.mover a.plan a.start a.end
     (pass_areas a.base.now a.planned.now a.marks.now a.parents.now a.queue.now a.out.now)
-    c.requires.ready.0 c.mark_centers.ensures (rw e at c.judged-passed.ensures) (zeros ∙ ap (λ (f : Frame). cleared (2 * (f.width * f.height)) marks) e)
+    c.requires.ready.0 c.mark_centers.ensures (rw e at c.judged-passed.ensures) (c.clear_marks.ensures ∙ ap (λ (f : Frame). cleared (2 * (f.width * f.height)) marks) e)

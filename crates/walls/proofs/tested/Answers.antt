@@ -15,8 +15,6 @@ pub returns : goal.returns
 returns c =
     let a = c.args in
     let e = c.frame_of-frame.ensures in
-    let n = 2 * (c.frame_of-frame.result.width * c.frame_of-frame.result.height) in
     let marks = c.mark_centers.new.marks in
-    let zeros : c.fill.new.self ++ drop n marks ≡ cleared n marks = search rules in
     list_tested (seen a.ground) a.query a.list.now (areas a.base.now a.planned.now a.marks.now)
-    c.requires.0 c.mark_centers.ensures (rw e at c.is_passage_planned-passes.ensures) (zeros ∙ ap (λ (f : Frame). cleared (2 * (f.width * f.height)) marks) e)
+    c.requires.0 c.mark_centers.ensures (rw e at c.is_passage_planned-passes.ensures) (c.clear_marks.ensures ∙ ap (λ (f : Frame). cleared (2 * (f.width * f.height)) marks) e)
