@@ -184,11 +184,18 @@ fn plan_of(words: &[u32]) -> Plan
     ensures { result.count ≤ 32 }
 {
     let mut buildings = [WallBuilding::default(); 32];
-    let count = (words.len() / 8).min(32);
-    for i in 0..count {
-        buildings[i] = building_at(words, 8 * i);
+    let given = words.len() / 8;
+    // Returned from the loop: where the count is worked out first, the compiler calls memcpy for the plan.
+    for count in 0..32 {
+        if count >= given {
+            return Plan { buildings, count };
+        }
+        buildings[count] = building_at(words, 8 * count);
     }
-    Plan { buildings, count }
+    Plan {
+        buildings,
+        count: 32,
+    }
 }
 
 // Whether w by h centers at (left, top) of a map of so many cells and obstacle words can be marked in areas of these lengths.

@@ -44,7 +44,11 @@ fn print_zeros<T: Copy + PartialEq>(rt: &impl Print, area: &[T], zero: T) -> io:
 
 // How many places are still 7.
 fn print_kept<T: Copy + PartialEq>(rt: &impl Print, area: &[T], seven: T) -> io::Result<()> {
-    let count = area.iter().filter(|x| **x == seven).count();
+    let mut count: usize = 0;
+    // A sum of tests has no branch: `filter` and `count` take twice as long.
+    for x in area {
+        count += (*x == seven) as usize;
+    }
     print_word(rt, count as u64)
 }
 

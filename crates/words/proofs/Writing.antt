@@ -1,13 +1,14 @@
--- Laws of `written`: words behind words, and a loop that writes one word, or the words of one value, after the other. Assumes nothing.
+-- Laws of `written`: words behind words, words written at once, and a loop that writes one word, or the words of one value, after the other. Assumes nothing.
 use mathlib.Core.Path.{◌≡◌, refl, sym, ap, ◌∙◌}
 use mathlib.Core.List.{List, [], ◌∷◌, ◌++◌, flat_map, append-nil}
-use Prim.Native.Nat.{ℕ, suc, ◌+◌, ◌*◌, ◌≤◌, ◌<◌}
+use Prim.Native.Nat.{ℕ, zero, suc, ◌+◌, ◌-◌, ◌*◌, ◌≤◌, ◌<◌, min}
 use native.Mathlib.Omega.{arith}
 use native.Mathlib.Numerals.{add-one}
-use Rattle.std.proofs.Math.Nat.{mul-suc}
+use Rattle.std.proofs.Math.Nat.{mul-suc, min_comm}
 use Rattle.std.proofs.lemmas.Grind.{flat_map-append}
-use lib.ListN.{length, get_or, set, take, length-take, length-append}
-use lib.Seq.{take-suc, take_all}
+use lib.ListN.{length, get_or, set, take, drop, length-take, length-append, length-drop}
+use Rattle.std.proofs.lemmas.List.{take_min, drop_min}
+use lib.Seq.{take-suc, take_all, take-nil, drop-nil}
 use Rattle.model.specs.Words.{written}
 
 -- the words of two lists, one behind the other
@@ -15,6 +16,35 @@ pub written_append : (k : ℕ) (a b l : List ℕ) → written k (a ++ b) l ≡ w
 unfolding written
 written_append k [] b l = ap (λ (j : ℕ). written j b l) (omega arith)
 written_append k (w ∷ a) b l = written_append (suc k) a b (set l k w) ∙ ap (λ (j : ℕ). written j b (written (suc k) a (set l k w))) (omega arith)
+
+-- without places nothing is written
+written_none : (k : ℕ) (ws : List ℕ) → written k ws [] ≡ []
+unfolding written
+written_none k [] = refl
+written_none k (w ∷ ws) = written_none (suc k) ws
+
+-- one place more stands before those that are written
+written_behind : (k : ℕ) (ws l : List ℕ) (x : ℕ) → written (suc k) ws (x ∷ l) ≡ x ∷ written k ws l
+unfolding written
+written_behind k [] l x = refl
+written_behind k (w ∷ ws) l x = written_behind (suc k) ws (set l k w) x
+
+-- the places before `at` stay, then come as many words as there are places left, and the places behind them stay
+written_parts : (at : ℕ) (ws out : List ℕ) → written at ws out ≡ take at out ++ (take (length (drop at out)) ws ++ drop (length ws) (drop at out))
+unfolding written
+written_parts at ws [] = written_none at ws ∙ rw (take-nil {A = ℕ} at, drop-nil {A = ℕ} at, drop-nil {A = ℕ} (length ws)) refl
+written_parts zero [] (x ∷ l) = refl
+written_parts zero (w ∷ ws) (x ∷ l) = written_behind 0 ws l w ∙ ap (λ (r : List ℕ). w ∷ r) (written_parts zero ws l)
+written_parts (suc k) ws (x ∷ l) = written_behind k ws l x ∙ ap (λ (r : List ℕ). x ∷ r) (written_parts k ws l)
+
+-- Written at once: the first `from` places stay, then come the first n words, and the places behind them stay. `from` is `at`, or the number of places where that is less, and n is the number of words, or of the places that are left where that is less.
+pub written_slice : (at from n : ℕ) (ws out : List ℕ) → from ≡ min at (length out) → n ≡ min (length ws) (length out - from) → written at ws out ≡ take from out ++ (take n ws ++ drop n (drop from out))
+written_slice at from n ws out f e =
+    let rest = drop at out in
+    let room : n ≡ min (length ws) (length rest) = rw (length-drop at out) (omega (arith, f, e)) in
+    let words : take n ws ≡ take (length rest) ws = rw (room, min_comm (length ws) (length rest)) (take_min (length rest) ws) in
+    let behind : drop n rest ≡ drop (length ws) rest = rw room (drop_min (length ws) rest) in
+    written_parts at ws out ∙ rw (f, take_min at out, drop_min at out, words, behind) refl
 
 -- two calls that write, one behind the other
 pub both : (k j : ℕ) (a b l x y : List ℕ) → x ≡ written k a l → y ≡ written j b x → k + length a ≡ j → y ≡ written k (a ++ b) l

@@ -118,9 +118,9 @@ fn put_words(out: &mut [u64], at: usize, words: &[u64])
     requires { at < 1000 }
     ensures { out.new ≡ written at words.now out.old }
 {
-    for (i, word) in words.iter().enumerate() {
-        put(out, at + i, *word);
-    }
+    let from = at.min(out.len());
+    let n = words.len().min(out.len() - from);
+    out[from..from + n].copy_from_slice(&words[..n]);
 }
 
 // The N words of each value, one behind the other.
