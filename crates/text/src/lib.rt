@@ -11,7 +11,7 @@ pub fn put(out: &mut [u8], at: usize, text: &[u8]) -> usize
     requires { Fits out.old at text.now }
     ensures { Wrote out.old at text.now out.new result }
 {
-    // By index, so that the proof knows each byte: of `copy_from_slice` it knows the whole, and any other loop would be refused for its form.
+    // By index, so that a trial can leave out one byte: of `copy_from_slice` the proof knows the whole alone, and refuses any loop in its place, a right one too.
     for k in 0..text.len() {
         out[at + k] = text[k];
     }
