@@ -1,9 +1,6 @@
 -- `passage::passage` meets its contract. Assumes nothing.
-use mathlib.Core.Path.{◌≡◌, ap, ◌∙◌}
-use mathlib.Core.List.{◌++◌}
+use mathlib.Core.Path.{ap, ◌∙◌}
 use Prim.Native.Nat.{◌*◌}
-use lib.ListN.{drop}
-use Rattle.std.proofs.Common.{rules}
 use Rattle.stamps.specs.declared.Frame.{Frame}
 use Rattle.model.specs.Ground.{seen}
 use Rattle.model.specs.Areas.{cleared}

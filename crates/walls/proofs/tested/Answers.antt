@@ -1,9 +1,6 @@
 -- `walls::tested` meets its contract: the marks, then the list against them. Assumes nothing.
-use mathlib.Core.Path.{◌≡◌, ap, ◌∙◌}
-use mathlib.Core.List.{◌++◌}
+use mathlib.Core.Path.{ap, ◌∙◌}
 use Prim.Native.Nat.{◌*◌}
-use borrow.Author.Rules.{rules}
-use lib.ListN.{drop}
 use Rattle.stamps.specs.declared.Frame.{Frame}
 use Rattle.model.specs.Areas.{cleared}
 use Rattle.model.specs.Ground.{seen}
