@@ -45,7 +45,7 @@ fn print_zeros<T: Copy + PartialEq>(rt: &impl Print, area: &[T], zero: T) -> io:
 // How many places are still 7.
 fn print_kept<T: Copy + PartialEq>(rt: &impl Print, area: &[T], seven: T) -> io::Result<()> {
     let mut count: usize = 0;
-    // A sum of tests has no branch: `filter` and `count` take twice as long.
+    // A sum of tests has no branch: `filter` and `count` take more than twice the instructions.
     for x in area {
         count += (*x == seven) as usize;
     }
